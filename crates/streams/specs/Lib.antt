@@ -1,0 +1,4 @@
+pub mod Refusals
+pub mod Sources
+pub mod Memories
+pub mod Sinks
