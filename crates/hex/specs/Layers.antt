@@ -5,6 +5,8 @@ use mathlib.Core.Bool.{Bool, true, false, cond}
 use Prim.Native.Nat.{ℕ, _+_, _*_, _/_, _%_, _≤_, _<_, min}
 use lib.ListN.{length, take, drop}
 use lib.Dec.{ltb, eqb}
+use Rattle.std.specs.declared.option.Option.{Option}
+use Rattle.std.specs.declared.option.Option.the-variants.{Some, None}
 use Rattle.std.specs.declared.result.Result.{Result}
 use Rattle.std.specs.declared.result.Result.the-variants.{Ok, Err}
 use Rattle.streams.specs.declared.refusals.PutRefusal.{PutRefusal}
@@ -31,6 +33,11 @@ hex-asked k true text = record { ended = true; text = text }
 hex-asked k false text =
     cond (ltb (length (spelled text)) k) (record { ended = true; text = drop (2 * length (spelled text) + 2) text })
     (record { ended = false; text = drop (2 * k) text })
+
+-- One byte asked for: the first of those ahead, or none, and then the layer has ended.
+abbrev pub Next : Bool → List ℕ → Bool → List ℕ → Option ℕ → Type 0
+Next ended text ended′ text′ (Some b) = hex-ahead ended text ≡ b ∷ hex-ahead ended′ text′
+Next ended text ended′ text′ None = (hex-ahead ended text ≡ []) × (ended′ ≡ true)
 
 -- The room of a sink layer, over the count and the room below: half of it rounded down, none while the last pair below is broken.
 abbrev pub hex-room : ℕ → ℕ → ℕ

@@ -1,11 +1,9 @@
 ghost use mathlib.Core.Path.{_≡_};
-ghost use mathlib.Core.Bool.{true, false};
-ghost use mathlib.Core.List.{[], _∷_};
+ghost use mathlib.Core.Bool.{false};
 ghost use Prim.Native.Nat.{min};
 ghost use lib.ListN.{length};
-ghost use Rattle.std.specs.declared.option.Option.the-variants.{Some, None};
 ghost use Rattle.streams.specs.Sources.{Handed};
-ghost use Rattle.hex.specs.Layers.{hex-ahead, hex-asked};
+ghost use Rattle.hex.specs.Layers.{hex-ahead, hex-asked, Next};
 ghost use Rattle.hex.specs.Laws.{Spells-longest-run};
 use crate::digits::pair_value;
 use streams::exact::read_exact;
@@ -41,7 +39,7 @@ impl<S: Source> HexSource<S> {
 
     /// The next byte, if the next two characters below are a digit pair; else the layer ends.
     fn next_byte(&mut self) -> Option<u8>
-        ensures next { λ r. ⌜ elim r [ Some b ↦ hex-ahead (now (self .entry) .ended) (S·Source .ahead (now (self .entry) .below)) ≡ b ∷ hex-ahead (now (self .exit) .ended) (S·Source .ahead (now (self .exit) .below)) | None ↦ (hex-ahead (now (self .entry) .ended) (S·Source .ahead (now (self .entry) .below)) ≡ []) × (now (self .exit) .ended ≡ true) ] ⌝ }
+        ensures next { λ r. ⌜ Next (now (self .entry) .ended) (S·Source .ahead (now (self .entry) .below)) (now (self .exit) .ended) (S·Source .ahead (now (self .exit) .below)) r ⌝ }
         ensures takes { λ _. ⌜ record { ended = now (self .exit) .ended; text = S·Source .ahead (now (self .exit) .below) } ≡ hex-asked 1 (now (self .entry) .ended) (S·Source .ahead (now (self .entry) .below)) ⌝ }
     {
         if self.ended {
