@@ -1,3 +1,4 @@
+// Examples at the edges; read under #[cfg(test)] alone.
 use crate::digits::digit_value;
 use crate::digits::digits;
 use crate::digits::pair_or_zero;

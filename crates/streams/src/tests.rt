@@ -1,3 +1,4 @@
+// Examples at the edges; read under #[cfg(test)] alone.
 use crate::buffer_sink::BufferSink;
 use crate::buffer_sink::BufferSinkHolds;
 use crate::exact::read_exact;

@@ -1,3 +1,4 @@
+// Examples at the edges; read under #[cfg(test)] alone.
 use crate::report::report;
 use std::test::*;
 
