@@ -53,6 +53,7 @@ pub impl Sink for VecSink as VecSinkHolds {
         }
         match self.bytes.extend_from_slice(bytes) {
             Ok(()) => Ok(()),
+            // cannot come: the memory is reserved
             Err(_) => Err(PutRefusal::NoRoom),
         }
     }
