@@ -1,4 +1,5 @@
 pub mod Numbers
 pub mod Types
 pub mod Utf8
+pub mod Kinds
 pub mod Examples

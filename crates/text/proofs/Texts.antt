@@ -11,9 +11,9 @@ use Rattle.std.specs.Orderings.{Decides}
 use Rattle.std.proofs.shelf.Tests.{lt-ltb, le-ltb, le-leb, lt-leb, ltb-true, ltb-false, leb-true, eqb-true, eqb-false, cond-true, cond-false, cases-lt}
 use Rattle.std.proofs.shelf.Ways.{tells}
 use Rattle.ttlv.specs.Utf8.{Scalar, more, written, Text, no-more, one-more}
-use Rattle.values.specs.declared.utf8.Utf8.{Utf8}
-use Rattle.values.specs.declared.utf8.Utf8.the-variants.{Start, Second, Tail1, Tail2, Bad}
-use Rattle.values.specs.Deciding.{within, second, after-second, stepped, run, whole}
+use Rattle.text.specs.declared.utf8.Utf8.{Utf8}
+use Rattle.text.specs.declared.utf8.Utf8.the-variants.{Start, Second, Tail1, Tail2, Bad}
+use Rattle.text.specs.Deciding.{within, second, after-second, stepped, run, whole}
 
 -- The bytes of a character, by the range of its code point.
 pub written-1 : (c : ℕ) → c < 0x80 → written c ≡ c ∷ []

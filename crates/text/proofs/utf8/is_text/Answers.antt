@@ -2,9 +2,9 @@ use mathlib.Core.Path.{sym, ap, _∙_}
 use Prim.Native.Nat.{_+_}
 use lib.ListN.{drop}
 use Rattle.std.proofs.shelf.Lists.{drop-more, drop-all}
-use Rattle.values.specs.Deciding.{run, whole}
-use Rattle.values.proofs.Texts.{decides-text}
-use Rattle.values.proofs.utf8.is_text.Needs as need
+use Rattle.text.specs.Deciding.{run, whole}
+use Rattle.text.proofs.Texts.{decides-text}
+use Rattle.text.proofs.utf8.is_text.Needs as need
 
 pub loop-b-again : need.loop-b-again
 loop-b-again c =

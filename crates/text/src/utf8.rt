@@ -1,8 +1,8 @@
 ghost use mathlib.Core.Path.{_≡_};
 ghost use Rattle.std.specs.Orderings.{Decides};
 ghost use Rattle.ttlv.specs.Utf8.{Text};
-ghost use Rattle.values.specs.Deciding.{stepped, second, after-second};
-ghost use Rattle.values.specs.Deciding.{whole as whole-text};
+ghost use Rattle.text.specs.Deciding.{stepped, second, after-second};
+ghost use Rattle.text.specs.Deciding.{whole as whole-text};
 
 /// What was seen of a text so far.
 #[derive(Clone, Copy, PartialEq, Eq, Debug)]

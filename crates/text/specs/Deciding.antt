@@ -4,8 +4,8 @@ use mathlib.Core.List.{List, [], _∷_}
 use mathlib.Core.Bool.{Bool, true, false, cond, _&&_, _||_}
 use Prim.Native.Nat.{ℕ}
 use lib.Dec.{eqb, leb, ltb}
-use Rattle.values.specs.declared.utf8.Utf8.{Utf8}
-use Rattle.values.specs.declared.utf8.Utf8.the-variants.{Start, Second, Tail1, Tail2, Bad}
+use Rattle.text.specs.declared.utf8.Utf8.{Utf8}
+use Rattle.text.specs.declared.utf8.Utf8.the-variants.{Start, Second, Tail1, Tail2, Bad}
 
 abbrev pub within : ℕ → ℕ → ℕ → Bool
 within low high b = leb low b && leb b high

@@ -1,0 +1,3 @@
+#[cfg(test)]
+mod tests;
+pub mod utf8;
