@@ -37,9 +37,6 @@ tested low high b e = grind (arith, tells)
 passes : (low high b : ℕ) → In low high b → within low high b ≡ true
 passes low high b h = grind (arith, tells)
 
-fails : (low high b : ℕ) → (In low high b → ⊥) → within low high b ≡ false
-fails low high b h = grind (arith, tells)
-
 -- What `second` says, as ranges.
 pub record Seconds (a b : ℕ) : Type 0 where
   pub any : In 0x80 0xBF b
