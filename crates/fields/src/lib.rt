@@ -1,3 +1,5 @@
+#![tactic(auto)]
+
 pub mod byte_offset;
 pub mod field_type;
 pub mod refusals;

@@ -1,3 +1,5 @@
+#![tactic(auto)]
+
 pub mod digits;
 pub mod hex_sink;
 pub mod hex_source;

@@ -10,7 +10,7 @@ use streams::source::Source;
 
 /// Writes `bytes` into `below` as uppercase digits.
 pub fn write_hex<S: Sink>(below: &mut S, bytes: &[u8]) -> Result<(), PutRefusal>
-    ensures { WritesHex (store below.old) (store below.new) bytes.now result }
+    ensures { WritesHex (S.store below.old) (S.store below.new) bytes.now result }
 {
     let mut layer = HexSink::new(below);
     layer.put(bytes)
@@ -22,7 +22,7 @@ pub fn write_and_read_back<S: Sink>(
     bytes: &[u8],
     back: &mut [u8],
 ) -> Result<usize, PutRefusal>
-    ensures writes { WritesHex (store below.old) (store below.new) bytes.now result }
+    ensures writes { WritesHex (S.store below.old) (S.store below.new) bytes.now result }
     ensures reads { ReadsBackHex bytes.now back.old back.new result }
     ensures law { ReadsWhatWasWritten }
 {

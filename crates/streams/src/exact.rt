@@ -5,7 +5,7 @@ use crate::source::Source;
 
 /// Fills `buf` from `src`, or takes all that is left of it.
 pub fn read_exact<S: Source>(src: &mut S, buf: &mut [u8]) -> Result<(), ReadRefusal>
-    ensures { Reads (ahead src.old) (ahead src.new) buf.old buf.new result }
+    ensures { Reads (S.ahead src.old) (S.ahead src.new) buf.old buf.new result }
 {
     let mut taken = 0;
     while taken < buf.len() {

@@ -1,3 +1,5 @@
+#![tactic(auto)]
+
 pub mod buffer_sink;
 pub mod exact;
 pub mod refusals;

@@ -5,7 +5,7 @@ use crate::sink::Sink;
 
 /// Puts `text` byte by byte, until it ends or the room does.
 pub fn put_text<S: Sink>(dst: &mut S, text: &[u8]) -> Result<(), PutRefusal>
-    ensures { Texts (store dst.old) (store dst.new) text.now result }
+    ensures { Texts (S.store dst.old) (S.store dst.new) text.now result }
 {
     for b in text {
         dst.put(&[*b])?;

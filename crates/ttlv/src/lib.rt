@@ -1,1 +1,8 @@
-pub mod padding;
+#![tactic(auto)]
+
+ghost use Rattle.ttlv.specs.Examples.{WorkedExamples};
+
+/// The worked examples of the format hold of its definitions; it does nothing.
+pub fn worked_examples_hold()
+    ensures { WorkedExamples }
+{}

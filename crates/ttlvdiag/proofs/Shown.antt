@@ -1,22 +1,41 @@
 -- Text that is added part by part.
-use Rattle.std.proofs.Common.{◌≡◌, ℕ, ◌<◌, ◌≤◌, List, [], ◌∷◌, ◌++◌, length, codes, sym, refl, ap, ◌∙◌, arith}
+use Rattle.std.proofs.Common.{◌≡◌, ℕ, ◌+◌, ◌-◌, ◌<◌, ◌≤◌, List, [], ◌∷◌, ◌++◌, length, get_or, take, drop, codes, sym, refl, ap, ◌∙◌, arith}
 use Rattle.std.specs.List.{flat_map}
-use Rattle.std.proofs.lemmas.List.{append_assoc, append-nil}
+use Rattle.std.proofs.lemmas.List.{take_more, take_all, take_at, take-append-drop, append_assoc, append-nil, length-take-le, length-drop}
 use Rattle.std.proofs.lemmas.Bool.{lt-ltb, le-ltb, cond-true, cond-false}
-use Rattle.fields.specs.declared.ttlv_tag.TtlvTag.{TtlvTag}
-use Rattle.fields.specs.Types.{type_letter}
-use Rattle.items.specs.declared.item.Item.{Item}
-use Rattle.items.specs.Items.{item_tag, item_kind}
+use Rattle.streams.specs.Sources.{Handed}
+use Rattle.streams.proofs.Growing.{spelt_append}
+use Rattle.hexadecimal.specs.Digits.{digits, hexed, hex_spelling}
 use Rattle.ttlvdiag.specs.Lines.{lines, first_line, after_line, ended}
-use Rattle.ttlvdiag.specs.Reports.{tag_text, item_text, message_text, line_text, report_text}
+use Rattle.ttlvdiag.specs.Reports.{message_text, line_text, report_text}
 use Rattle.ttlvdiag.proofs.Cutting.{lines_split}
 
--- An item is shown by its tag and its letter.
-pub item_shown : (start now now' : List ℕ) (item : Item) (tag : TtlvTag) (letter : ℕ) → tag ≡ item_tag item → letter ≡ type_letter (item_kind item) → now ≡ start ++ tag_text tag → now' ≡ now ++ letter ∷ []
-    → now' ≡ start ++ item_text item
-item_shown start now now' item tag letter t l e n =
-    n ∙ ap (λ q. q ++ letter ∷ []) (e ∙ ap (λ q. start ++ tag_text q) t) ∙ append_assoc start (tag_text (item_tag item)) (letter ∷ [])
-    ∙ ap (λ q. start ++ (tag_text (item_tag item) ++ q ∷ [])) l
+-- One byte more, in hexadecimal.
+pub hexed_more : (start now ds bytes : List ℕ) (i : ℕ) → i < length bytes → now ≡ start ++ hexed (take i bytes) → ds ≡ digits (get_or bytes i 0) → now ++ ds ≡ start ++ hexed (take (i + 1) bytes)
+hexed_more start now ds bytes i h e d =
+    let t : take (i + 1) bytes ≡ take i bytes ++ get_or bytes i 0 ∷ [] = take_more bytes i 0 h in
+    ap (λ l. l ++ ds) e ∙ append_assoc start (hexed (take i bytes)) ds ∙ ap (λ l. start ++ (hexed (take i bytes) ++ l)) d
+    ∙ ap (λ l. start ++ l) (sym (spelt_append hex_spelling (take i bytes) (get_or bytes i 0 ∷ [])) ∙ ap hexed (sym t))
+
+-- A part of a message, in hexadecimal.
+pub part_more : (start now now' all ahead ahead' buf buf' : List ℕ) (m : ℕ) → now ++ hexed ahead ≡ start ++ hexed all → Handed ahead ahead' buf buf' m
+    → now' ≡ now ++ hexed (take (m - 0) buf') → now' ++ hexed ahead' ≡ start ++ hexed all
+part_more start now now' all ahead ahead' buf buf' m e h p =
+    let t : take (m - 0) buf' ≡ take m ahead
+    = ap (λ n. take n buf') (let z : m - 0 ≡ m = omega arith in z) ∙ ap (take m) h.filled ∙ take_at (take m ahead) (drop m buf) m (length-take-le m ahead h.had) in
+    ap (λ l. now' ++ hexed l) h.left ∙ ap (λ l. l ++ hexed (drop m ahead)) (p ∙ ap (λ l. now ++ hexed l) t)
+    ∙ append_assoc now (hexed (take m ahead)) (hexed (drop m ahead))
+    ∙ ap (λ l. now ++ l) (sym (spelt_append hex_spelling (take m ahead) (drop m ahead)) ∙ ap hexed (take-append-drop m ahead)) ∙ e
+
+-- Nothing came: the message is shown whole.
+pub part_last : (start now all ahead ahead' buf buf' : List ℕ) (m : ℕ) → now ++ hexed ahead ≡ start ++ hexed all → Handed ahead ahead' buf buf' m → m ≡ 0 → 0 < length buf
+    → now ≡ start ++ hexed all
+part_last start now [] [] ahead' buf buf' m e h z l = sym (append-nil now) ∙ e
+part_last start now (b ∷ all) [] ahead' buf buf' m e h z l = sym (append-nil now) ∙ e
+part_last start now all (a ∷ ahead) ahead' buf buf' m e h z l = absurd (omega (arith, h.some l (omega arith)))
+
+pub part_falls : (ahead ahead' buf buf' : List ℕ) (m : ℕ) → Handed ahead ahead' buf buf' m → 0 < m → length ahead' < length ahead
+part_falls ahead ahead' buf buf' m h l = omega (arith, ap length h.left ∙ length-drop m ahead, h.had)
 
 -- One line more.
 pub line_more : (now now' all text line rest : List ℕ) → 0 < length text → now ++ flat_map line_text (lines text) ≡ all → line ≡ first_line text → rest ≡ after_line text

@@ -1,4 +1,5 @@
-mod items_shown;
+#![tactic(auto)]
+
 mod lines;
 mod report;
 #[cfg(test)]

@@ -1,26 +1,40 @@
 ghost use Rattle.std.specs.Prelude.{◌≡◌, ◌++◌, IfOk, OnOk};
+ghost use Rattle.hexadecimal.specs.Digits.{hexed};
 ghost use Rattle.ttlvdiag.specs.Lines.{CutsAtLf};
 ghost use Rattle.ttlvdiag.specs.Reports.{message_text, report_text};
 
-use crate::items_shown::{add_item, add_text};
 use crate::lines::split_line;
-use fields::byte_offset::ByteOffset;
+use hexadecimal::digits::digits;
 use hexadecimal::hex_source::HexSource;
-use items::item::read_item;
 use std::alloc::{AllocError, Global};
 use streams::slice_source::SliceSource;
+use streams::source::Source;
 
 /// The longest input that is looked at, in bytes.
 pub const LIMIT: usize = 65536;
+
+/// Adds `bytes` to `out` in uppercase hexadecimal.
+fn add_hex(out: &mut Vec<u8>, bytes: &[u8]) -> Result<(), AllocError>
+    ensures { OnOk result (out.new.items ≡ out.old.items ++ hexed bytes.now) }
+{
+    for b in bytes {
+        out.extend_from_slice(&digits(*b))?;
+    }
+    Ok(())
+}
 
 /// Adds the text for the message that a line spells to `out`.
 fn add_message(out: &mut Vec<u8>, line: &[u8]) -> Result<(), AllocError>
     ensures { OnOk result (out.new.items ≡ out.old.items ++ message_text line.now) }
 {
     let mut message = HexSource::new(SliceSource::new(line));
-    match read_item(&mut message, ByteOffset(0)) {
-        Ok(item) => add_item(out, &item),
-        Err(_) => add_text(out, b"ERR"),
+    let mut part = [0u8; 256];
+    loop {
+        let m = message.read(&mut part);
+        if m == 0 {
+            return Ok(());
+        }
+        add_hex(out, &part[0..m])?;
     }
 }
 

@@ -1,5 +1,16 @@
+#![tactic(auto)]
+
+pub mod big_integer;
+pub mod boolean;
+pub mod date_time;
+pub mod enumeration;
 pub mod fixed;
-pub mod legal;
+pub mod integer;
+pub mod long_integer;
+pub mod padding;
 pub mod refusals;
+pub mod strings;
+#[cfg(test)]
+mod tests;
 pub mod value;
 pub mod write;

@@ -11,29 +11,29 @@ use Rattle.ttlvdiag.proofs.report.report.Goals as goal
 pub returns-then-input-gt-LIMIT : goal.returns-then-input-gt-LIMIT
 returns-then-input-gt-LIMIT c =
     record {
-      text = IfOk-weaker c.from-slice.result _ (λ out. vec_items out ≡ report_text c.args.input.now)
-          (λ out e. report_beyond c.args.input.now (vec_items out) c.if-input-gt-LIMIT.true e.0) c.from-slice.ensures.made;
+      text = IfOk-weaker c.from_slice.result _ (λ out. vec_items out ≡ report_text c.args.input.now)
+          (λ out e. report_beyond c.args.input.now (vec_items out) c.if-input-gt-LIMIT.true e.0) c.from_slice.ensures.made;
       law = cuts_at_lf;
     }
 
-pub returns-in-err-add-message : goal.returns-in-err-add-message
-returns-in-err-add-message c = record { text = IfOk-from_err c.from-residual.result _ c.from-residual.ensures.0; law = cuts_at_lf }
+pub returns-in_err-add_message : goal.returns-in_err-add_message
+returns-in_err-add_message c = record { text = IfOk-from_err c.from_residual.result _ c.from_residual.ensures.0; law = cuts_at_lf }
 
-pub returns-in-err-push : goal.returns-in-err-push
-returns-in-err-push c = record { text = IfOk-from_err c.from-residual-in-err-push.result _ c.from-residual-in-err-push.ensures.0; law = cuts_at_lf }
+pub returns-in_err-push : goal.returns-in_err-push
+returns-in_err-push c = record { text = IfOk-from_err c.from_residual-in_err-push.result _ c.from_residual-in_err-push.ensures.0; law = cuts_at_lf }
 
 pub loop-rest-smaller : goal.loop-rest-smaller
 loop-rest-smaller c =
     let ne = eqb-false (length c.loop-rest.rest.now) 0 (sym c.loop-rest-test.ensures) in
     let some : 0 < length c.loop-rest.rest.now = omega arith in
-    subst (λ l. length l < length c.loop-rest.rest.now) (sym c.split-line.ensures.rest) (after_falls c.loop-rest.rest.now some)
+    subst (λ l. length l < length c.loop-rest.rest.now) (sym c.split_line.ensures.rest) (after_falls c.loop-rest.rest.now some)
 
 pub loop-rest-preserved : goal.loop-rest-preserved
 loop-rest-preserved c =
     let ne = eqb-false (length c.loop-rest.rest.now) 0 (sym c.loop-rest-test.ensures) in
-    line_more (vec_items c.loop-rest.out) (vec_items c.push.new.self) (flat_map line_text (lines c.args.input.now)) c.loop-rest.rest.now c.split-line.result.0.now c.split-line.result.1.now
-    (omega arith) c.loop-rest.invariant c.split-line.ensures.line c.split-line.ensures.rest
-    (c.in-ok-push.ensures.items ∙ ap (λ l. l ++ 10 ∷ []) c.in-ok-add-message.ensures)
+    line_more (vec_items c.loop-rest.out) (vec_items c.push.new.self) (flat_map line_text (lines c.args.input.now)) c.loop-rest.rest.now c.split_line.result.0.now c.split_line.result.1.now
+    (omega arith) c.loop-rest.invariant c.split_line.ensures.line c.split_line.ensures.rest
+    (c.in_ok-push.ensures.items ∙ ap (λ l. l ++ 10 ∷ []) c.in_ok-add_message.ensures)
 
 pub returns : goal.returns
 returns c =

@@ -8,36 +8,33 @@ pub returns-then-len-gt-MESSAGE-LIMIT : goal.returns-then-len-gt-MESSAGE-LIMIT
 returns-then-len-gt-MESSAGE-LIMIT g c =
     let bytes = g.V.SerializableTtlvType.value c.args.v.now in
     let l = length_value_item bytes in
-    let n = c.value-len-len.ensures.len in
-    record { writes = too_long (g.S.Sink.store c.args.dst.now) (value_item bytes) (omega arith); legal = c.value-len-len.ensures.legal }
+    let n = c.value_len-len.ensures.len in
+    too_long (g.S.Sink.store c.args.dst.now) (value_item bytes) (omega arith)
 
 pub returns-then-whole-gt-MESSAGE-LIMIT : goal.returns-then-whole-gt-MESSAGE-LIMIT
 returns-then-whole-gt-MESSAGE-LIMIT g c =
     let bytes = g.V.SerializableTtlvType.value c.args.v.now in
     let l = length_value_item bytes in
-    let n = c.value-len-len.ensures.len in
-    let p = c.padding-of-pad.ensures ∙ ap padding n in
-    record { writes = too_long (g.S.Sink.store c.args.dst.now) (value_item bytes) (omega arith); legal = c.value-len-len.ensures.legal }
+    let n = c.value_len-len.ensures.len in
+    let p = c.padding_of-pad.ensures ∙ ap padding n in
+    too_long (g.S.Sink.store c.args.dst.now) (value_item bytes) (omega arith)
 
 pub returns-then-whole-room : goal.returns-then-whole-room
 returns-then-whole-room g c =
     let bytes = g.V.SerializableTtlvType.value c.args.v.now in
     let l = length_value_item bytes in
-    let n = c.value-len-len.ensures.len in
-    let p = c.padding-of-pad.ensures ∙ ap padding n in
-    record { writes = no_room (g.S.Sink.store c.args.dst.now) (value_item bytes) (omega arith) (omega arith); legal = c.value-len-len.ensures.legal }
+    let n = c.value_len-len.ensures.len in
+    let p = c.padding_of-pad.ensures ∙ ap padding n in
+    no_room (g.S.Sink.store c.args.dst.now) (value_item bytes) (omega arith) (omega arith)
 
 pub returns : goal.returns
 returns g c =
     let store = g.S.Sink.store in
     let bytes = g.V.SerializableTtlvType.value c.args.v.now in
     let l = length_value_item bytes in
-    let n = c.value-len-len.ensures.len in
-    let p = c.padding-of-pad.ensures ∙ ap padding n in
-    record {
-      writes = all_written (store c.args.dst.now) (store c.put-2.new.self) (value_item bytes) (omega arith) (omega arith)
-          (three_puts (store c.args.dst.now) (store c.put.new.self) (store c.put-value.new.dst) (store c.put-2.new.self) bytes c.to-be-bytes.result _
-          (c.to-be-bytes.ensures ∙ ap (be 4) n) (fronts c.padding-of-pad.result (length bytes) 0 p)
-          c.in-ok-put.ensures.1 c.in-ok-put-value.ensures.1 c.in-ok-put-2.ensures.1);
-      legal = c.value-len-len.ensures.legal;
-    }
+    let n = c.value_len-len.ensures.len in
+    let p = c.padding_of-pad.ensures ∙ ap padding n in
+    all_written (store c.args.dst.now) (store c.put-2.new.self) (value_item bytes) (omega arith) (omega arith)
+    (three_puts (store c.args.dst.now) (store c.put.new.self) (store c.put_value.new.dst) (store c.put-2.new.self) bytes c.to_be_bytes.result _
+    (c.to_be_bytes.ensures ∙ ap (be 4) n) (fronts c.padding_of-pad.result (length bytes) 0 p)
+    c.in_ok-put.ensures.1 c.in_ok-put_value.ensures.1 c.in_ok-put-2.ensures.1)

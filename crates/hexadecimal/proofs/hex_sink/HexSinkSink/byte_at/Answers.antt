@@ -11,9 +11,9 @@ returns g c =
     let x = (g.S.Sink.store c.args.self.now.below.now).memory.held in
     let p = c.args.p in
     let n = length_paired x in
-    let h = c.in-ok-high.ensures.1 in
-    let l = c.in-ok-low.ensures.1 in (
+    let h = c.in_ok-high.ensures.1 in
+    let l = c.in_ok-low.ensures.1 in (
       omega arith,
-      c.pair-or-zero.ensures ∙ ap (λ v. nibble_or_0 v * 16 + nibble_or_0 c.in-ok-low.low) h ∙ ap (λ v. nibble_or_0 (get_or x (2 * p) 0) * 16 + nibble_or_0 v) l
+      c.pair_or_zero.ensures ∙ ap (λ v. nibble_or_0 v * 16 + nibble_or_0 c.in_ok-low.low) h ∙ ap (λ v. nibble_or_0 (get_or x (2 * p) 0) * 16 + nibble_or_0 v) l
           ∙ paired_at x p (omega arith),
     )

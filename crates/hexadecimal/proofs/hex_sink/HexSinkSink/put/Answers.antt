@@ -15,17 +15,17 @@ loop-b-preserved g c =
     let bytes = c.args.bytes.now in let i = c.loop-b.b-index in
     let more = hex_left (hex_store n₀ s) (hex_store n t) bytes i c.loop-b.invariant c.loop-b-test.true (omega arith) in
     grown_more (hex_store n₀ s) (hex_store n t) (hex_store n u) bytes i c.loop-b.invariant c.loop-b-test.true
-    (hex_put_one n t u c.digits.result (get_or bytes i 0) c.digits.ensures c.in-ok-put.ensures more (Fits-lt-pow (c.type-inv.bytes i)))
+    (hex_put_one n t u c.digits.result (get_or bytes i 0) c.digits.ensures c.in_ok-put.ensures more (Fits-lt-pow (c.type_inv.bytes i)))
 
 pub returns : goal.returns
 returns g c =
     grown_all (hex_store c.args.self.now.below.name (g.S.Sink.store c.args.self.now.below.now)) (hex_store c.loop-b.self.below.ghost_name (g.S.Sink.store c.loop-b.self.below.now))
     c.args.bytes.now c.loop-b.b-index c.loop-b.invariant c.loop-b-test.false
 
-pub returns-in-err-put : goal.returns-in-err-put
-returns-in-err-put g c =
+pub returns-in_err-put : goal.returns-in_err-put
+returns-in_err-put g c =
     let s = g.S.Sink.store c.args.self.now.below.now in let t = g.S.Sink.store c.loop-b.self.below.now in let u = g.S.Sink.store c.put.new.self in
     let n₀ = c.args.self.now.below.name in let n = c.loop-b.self.below.name in
     let bytes = c.args.bytes.now in let i = c.loop-b.b-index in
     let more = hex_left (hex_store n₀ s) (hex_store n t) bytes i c.loop-b.invariant c.loop-b-test.true (omega arith) in
-    absurd (hex_no_break n t c.digits.result (get_or bytes i 0) c.digits.ensures c.in-err-put.ensures.0 more)
+    absurd (hex_no_break n t c.digits.result (get_or bytes i 0) c.digits.ensures c.in_err-put.ensures.0 more)

@@ -13,12 +13,12 @@ loop-done-init g c =
 
 pub loop-done-preserved : goal.loop-done-preserved
 loop-done-preserved g c =
-    let s₀ = c.args.self.now in let s₁ = c.loop-done.self in let s₂ = c.next-byte.new.self in let ahead = g.S.Source.ahead in
+    let s₀ = c.args.self.now in let s₁ = c.loop-done.self in let s₂ = c.next_byte.new.self in let ahead = g.S.Source.ahead in
     let k = length c.args.buf.now in let done = c.loop-done.done in
     let less : k - (done + 1) + 1 ≡ k - done = omega arith in (
       going_push (hex_ahead s₀.ended (ahead s₀.below)) (hex_ahead s₁.ended (ahead s₁.below)) (hex_ahead s₂.ended (ahead s₂.below))
           c.args.buf.now c.loop-done.buf done c.in-Some.b c.loop-done.invariant.0 c.in-Some.ensures.next (omega arith),
-      asked_then (k - (done + 1)) s₁.ended (ahead s₁.below) (record { ended = s₂.ended; text = ahead s₂.below }) c.next-byte.ensures.takes
+      asked_then (k - (done + 1)) s₁.ended (ahead s₁.below) (record { ended = s₂.ended; text = ahead s₂.below }) c.next_byte.ensures.takes
           ∙ ap (λ n. hex_asked n s₁.ended (ahead s₁.below)) less ∙ c.loop-done.invariant.1,
     )
 
@@ -34,18 +34,18 @@ returns g c =
       takes = asked_none s₁.ended (ahead s₁.below) ∙ ap (λ n. hex_asked n s₁.ended (ahead s₁.below)) none ∙ c.loop-done.invariant.1;
     }
 
-pub returns-in-default : goal.returns-in-default
-returns-in-default g c =
-    let s₀ = c.args.self.now in let s₁ = c.loop-done.self in let s₂ = c.next-byte.new.self in let ahead = g.S.Source.ahead in
+pub returns-in_default : goal.returns-in_default
+returns-in_default g c =
+    let s₀ = c.args.self.now in let s₁ = c.loop-done.self in let s₂ = c.next_byte.new.self in let ahead = g.S.Source.ahead in
     let k = length c.args.buf.now in let done = c.loop-done.done in
     let less : k - (done + 1) + 1 ≡ k - done = omega arith in
     let old = hex_ahead s₀.ended (ahead s₀.below) in let new = hex_ahead s₁.ended (ahead s₁.below) in let new' = hex_ahead s₂.ended (ahead s₂.below) in
-    let none = c.in-default.ensures.next in
+    let none = c.in_default.ensures.next in
     let gone = ahead_ended s₂.ended (ahead s₂.below) none.1 in
     record {
       hands = going_over old new new' c.args.buf.now c.loop-done.buf done c.loop-done.invariant.0 none.0 gone;
       most = most_over old new new' c.args.buf.now c.loop-done.buf done c.loop-done.invariant.0 none.0 gone;
       takes = asked_ended (k - (done + 1)) s₂.ended (ahead s₂.below) none.1
-          ∙ asked_then (k - (done + 1)) s₁.ended (ahead s₁.below) (record { ended = s₂.ended; text = ahead s₂.below }) c.next-byte.ensures.takes
+          ∙ asked_then (k - (done + 1)) s₁.ended (ahead s₁.below) (record { ended = s₂.ended; text = ahead s₂.below }) c.next_byte.ensures.takes
           ∙ ap (λ n. hex_asked n s₁.ended (ahead s₁.below)) less ∙ c.loop-done.invariant.1;
     }

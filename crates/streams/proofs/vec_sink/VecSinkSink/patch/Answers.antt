@@ -9,7 +9,7 @@ loop-i-init c = (overwritten_none (vec_items c.args.self.now.bytes) c.args.at, r
 
 pub loop-i-preserved : goal.loop-i-preserved
 loop-i-preserved c =
-    let within = ltb-false c.count.result (c.args.at + length c.args.bytes.now) (sym c.if-reaches-past.ensures) in (
+    let within = ltb-false c.count.result (c.args.at + length c.args.bytes.now) (sym c.if-reaches_past.ensures) in (
       overwritten_step (vec_items c.args.self.now.bytes) (vec_items c.loop-i.self.bytes) c.args.bytes.now c.args.at c.loop-i.i
           c.loop-i.invariant.0 c.loop-i-test.true (omega (arith, c.args.self.now.bytes.ok.0)),
       c.loop-i.invariant.1,
@@ -18,7 +18,7 @@ loop-i-preserved c =
 
 pub returns : goal.returns
 returns c =
-    let within = ltb-false c.count.result (c.args.at + length c.args.bytes.now) (sym c.if-reaches-past.ensures) in
+    let within = ltb-false c.count.result (c.args.at + length c.args.bytes.now) (sym c.if-reaches_past.ensures) in
     let old = vec_items c.args.self.now.bytes in
     let new = vec_items c.loop-i.self.bytes in
     owned_patch old new c.args.bytes.now c.args.self.now.reserved c.loop-i.self.reserved c.args.at

@@ -1,0 +1,31 @@
+ghost use Rattle.std.specs.Prelude.{◌≡◌};
+ghost use Rattle.ttlv.specs.Kinds.{truth_bytes};
+ghost use Rattle.fields.specs.declared.ttlv_type.TtlvType.TheVariants.{Boolean as boolean};
+
+use crate::value::SerializableTtlvType;
+use fields::ttlv_type::TtlvType;
+use streams::refusals::PutRefusal;
+use streams::sink::Sink;
+
+/// True or false, in eight bytes.
+#[derive(Clone, Copy, PartialEq, Eq, Debug)]
+pub struct TtlvBoolean(pub bool);
+
+impl SerializableTtlvType for TtlvBoolean {
+    ghost kind = { λ _. boolean };
+
+    ghost value = { λ v. truth_bytes v.0 };
+
+    fn ttlv_type(&self) -> TtlvType {
+        TtlvType::Boolean
+    }
+
+    fn value_len(&self) -> usize {
+        8
+    }
+
+    fn put_value<S: Sink>(&self, dst: &mut S) -> Result<(), PutRefusal> {
+        let number: u64 = if self.0 { 1 } else { 0 };
+        dst.put(&number.to_be_bytes())
+    }
+}
