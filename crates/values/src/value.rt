@@ -27,5 +27,5 @@ pub trait SerializableTtlvType {
 
     /// Puts the value bytes, all or none.
     fn put_value<S: Sink>(&self, dst: &mut S) -> Result<(), PutRefusal>
-        ensures { Puts (store dst.old) (store dst.new) (value self.now) result };
+        ensures { Puts (S.store dst.old) (S.store dst.new) (value self.now) result };
 }

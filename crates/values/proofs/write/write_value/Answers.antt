@@ -4,15 +4,15 @@ use Rattle.ttlv.specs.Kinds.{value_item}
 use Rattle.values.proofs.Putting.{too_long, no_room, all_written, three_puts, length_value_item, fronts}
 use Rattle.values.proofs.write.write_value.Goals as goal
 
-pub returns-then-len-gt-MESSAGE-LIMIT : goal.returns-then-len-gt-MESSAGE-LIMIT
-returns-then-len-gt-MESSAGE-LIMIT g c =
+pub returns-then-len-gt-MESSAGE_LIMIT : goal.returns-then-len-gt-MESSAGE_LIMIT
+returns-then-len-gt-MESSAGE_LIMIT g c =
     let bytes = g.V.SerializableTtlvType.value c.args.v.now in
     let l = length_value_item bytes in
     let n = c.value_len-len.ensures.len in
     too_long (g.S.Sink.store c.args.dst.now) (value_item bytes) (omega arith)
 
-pub returns-then-whole-gt-MESSAGE-LIMIT : goal.returns-then-whole-gt-MESSAGE-LIMIT
-returns-then-whole-gt-MESSAGE-LIMIT g c =
+pub returns-then-whole-gt-MESSAGE_LIMIT : goal.returns-then-whole-gt-MESSAGE_LIMIT
+returns-then-whole-gt-MESSAGE_LIMIT g c =
     let bytes = g.V.SerializableTtlvType.value c.args.v.now in
     let l = length_value_item bytes in
     let n = c.value_len-len.ensures.len in
