@@ -12,7 +12,7 @@ pub returns-then-input-gt-LIMIT : goal.returns-then-input-gt-LIMIT
 returns-then-input-gt-LIMIT c =
     record {
       text = IfOk-weaker c.from_slice.result _ (λ out. vec_items out ≡ report_text c.args.input.now)
-          (λ out e. report_beyond c.args.input.now (vec_items out) c.if-input-gt-LIMIT.true e.0) c.from_slice.ensures.made;
+          (λ out e. report_beyond c.args.input.now (vec_items out) c.if-input-gt-LIMIT.true e) c.from_slice.ensures.items;
       law = cuts_at_lf;
     }
 
