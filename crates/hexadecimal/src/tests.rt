@@ -90,7 +90,7 @@ fn a_sink_layer_over_an_odd_count_has_no_room(rt: HostRuntime) {
     let mut below = BufferSink::new(&mut buf);
     assert_eq!(rt; below.put(b"4?5"), Ok(()));
     over_odd(&rt, &mut below);
-    assert!(rt; below.bytes() == b"4?5");
+    assert!(rt; below.bytes() == b"4?5".as_slice());
 }
 
 #[test]
@@ -108,5 +108,5 @@ fn what_is_written_is_read_back(rt: HostRuntime) {
         write_and_read_back(&mut below, b"\x00", &mut back),
         Err(PutRefusal::NoRoom)
     );
-    assert!(rt; below.bytes() == b"4200A5FF");
+    assert!(rt; below.bytes() == b"4200A5FF".as_slice());
 }

@@ -61,7 +61,7 @@ fn a_buffer_exactly_full_refuses_one_byte_more(rt: HostRuntime) {
     assert_eq!(rt; sink.put(b"e"), Err(PutRefusal::NoRoom));
     assert_eq!(rt; sink.put(b""), Ok(()));
     assert_eq!(rt; sink.room(), 0);
-    assert!(rt; sink.bytes() == b"abcd");
+    assert!(rt; sink.bytes() == b"abcd".as_slice());
 }
 
 #[test]
@@ -85,7 +85,7 @@ fn a_text_fills_the_room_that_there_is(rt: HostRuntime) {
     let mut sink = BufferSink::new(&mut buf);
     assert_eq!(rt; put_text(&mut sink, b"abc"), Ok(()));
     assert_eq!(rt; put_text(&mut sink, b"def"), Err(PutRefusal::NoRoom));
-    assert!(rt; sink.bytes() == b"abcd");
+    assert!(rt; sink.bytes() == b"abcd".as_slice());
     assert_eq!(rt; put_text(&mut sink, b""), Ok(()));
 }
 
@@ -101,7 +101,7 @@ fn an_owned_buffer_has_the_room_that_was_reserved(rt: HostRuntime) -> Result<(),
     assert_eq!(rt; sink.byte_at(3), Err(PlaceRefusal::OutOfRange));
     assert_eq!(rt; sink.put(b"de"), Ok(()));
     assert_eq!(rt; sink.room(), 0);
-    assert!(rt; sink.bytes() == b"aYZde");
+    assert!(rt; sink.bytes() == b"aYZde".as_slice());
     Ok(())
 }
 
