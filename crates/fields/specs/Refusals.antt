@@ -1,5 +1,6 @@
 -- The refusals of fields: the number of each case.
-use Rattle.std.specs.Prelude.{ℕ}
+use Rattle.std.specs.Prelude.{ℕ, List, ◌++◌, codes, decimal}
+use Rattle.fields.specs.Types.{field_name}
 use Rattle.fields.specs.declared.refusals.TypeRefusal.{TypeRefusal}
 use Rattle.fields.specs.declared.refusals.TypeRefusal.TheVariants.{Unsupported, Invalid}
 use Rattle.fields.specs.declared.refusals.AdvanceRefusal.{AdvanceRefusal}
@@ -19,3 +20,15 @@ advance_number (UnexpectedTtlvField expected actual) = 9
 -- Ignoring a tag: 10, while reading.
 abbrev pub ignore_number : IgnoreRefusal → ℕ
 ignore_number InvalidStateMachineOperation = 10
+
+-- What each refusal says to people.
+abbrev pub type_text : TypeRefusal → List ℕ
+type_text (Unsupported byte) = codes "refused 2: type byte " ++ (decimal byte ++ codes " is not handled")
+type_text (Invalid byte) = codes "refused 3: type byte " ++ (decimal byte ++ codes " is no type")
+
+abbrev pub advance_text : AdvanceRefusal → List ℕ
+advance_text (UnexpectedTtlvField expected actual) =
+    codes "refused 9: " ++ (field_name actual ++ (codes " came where " ++ (field_name expected ++ codes " was expected")))
+
+abbrev pub ignore_text : IgnoreRefusal → List ℕ
+ignore_text InvalidStateMachineOperation = codes "refused 10: no tag is ignored while reading"

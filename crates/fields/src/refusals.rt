@@ -1,7 +1,8 @@
-ghost use Rattle.std.specs.Prelude.{◌≡◌};
-ghost use Rattle.fields.specs.Refusals.{type_number, advance_number, ignore_number};
+ghost use Rattle.std.specs.Prelude.{◌≡◌, Some};
+ghost use Rattle.fields.specs.Refusals.{type_number, advance_number, ignore_number, type_text, advance_text, ignore_text};
 
 use crate::field_type::FieldType;
+use std::fmt;
 
 /// Why a byte is refused as a type.
 #[derive(Clone, Copy, PartialEq, Eq, Debug)]
@@ -20,6 +21,20 @@ impl TypeRefusal {
         match self {
             TypeRefusal::Unsupported(_) => 2,
             TypeRefusal::Invalid(_) => 3,
+        }
+    }
+}
+
+impl fmt::Display for TypeRefusal {
+    ghost output = { λ e. Some (type_text e) };
+
+    fn fmt<W: fmt::Write>(&self, f: &mut fmt::Formatter<W>) -> fmt::Result {
+        match self {
+            TypeRefusal::Unsupported(byte) => write!(
+                f,
+                "refused 2: type byte {byte} is not handled"
+            ),
+            TypeRefusal::Invalid(byte) => write!(f, "refused 3: type byte {byte} is no type"),
         }
     }
 }
@@ -45,6 +60,19 @@ impl AdvanceRefusal {
     }
 }
 
+impl fmt::Display for AdvanceRefusal {
+    ghost output = { λ e. Some (advance_text e) };
+
+    fn fmt<W: fmt::Write>(&self, f: &mut fmt::Formatter<W>) -> fmt::Result {
+        match self {
+            AdvanceRefusal::UnexpectedTtlvField { expected, actual } => write!(
+                f,
+                "refused 9: {actual} came where {expected} was expected"
+            ),
+        }
+    }
+}
+
 /// Why the state machine does not ignore a tag.
 #[derive(Clone, Copy, PartialEq, Eq, Debug)]
 pub enum IgnoreRefusal {
@@ -59,6 +87,19 @@ impl IgnoreRefusal {
     {
         match self {
             IgnoreRefusal::InvalidStateMachineOperation => 10,
+        }
+    }
+}
+
+impl fmt::Display for IgnoreRefusal {
+    ghost output = { λ e. Some (ignore_text e) };
+
+    fn fmt<W: fmt::Write>(&self, f: &mut fmt::Formatter<W>) -> fmt::Result {
+        match self {
+            IgnoreRefusal::InvalidStateMachineOperation => write!(
+                f,
+                "refused 10: no tag is ignored while reading"
+            ),
         }
     }
 }

@@ -1,5 +1,9 @@
 ghost use Rattle.std.specs.Prelude.{◌≡◌};
 ghost use Rattle.ttlv.specs.Numbers.{be, of_be};
+ghost use Rattle.hexadecimal.specs.Digits.{hexed};
+
+use hexadecimal::digits::digits;
+use std::fmt;
 
 /// The tag of an item. One that is read has three bytes; one that is made may be any number of 32 bits.
 #[derive(Clone, Copy, PartialEq, Eq, Debug)]
@@ -33,5 +37,22 @@ impl TtlvTag {
     {
         let bytes = self.0.to_be_bytes();
         [bytes[1], bytes[2], bytes[3]]
+    }
+
+    /// The six uppercase digits of the tag's bytes.
+    pub fn digits(&self) -> [u8; 6]
+        ensures { result ≡ hexed (be 3 self.now.0) }
+    {
+        let bytes = self.to_bytes();
+        let high = digits(bytes[0]);
+        let middle = digits(bytes[1]);
+        let low = digits(bytes[2]);
+        [high[0], high[1], middle[0], middle[1], low[0], low[1]]
+    }
+}
+
+impl fmt::Display for TtlvTag {
+    fn fmt<W: fmt::Write>(&self, f: &mut fmt::Formatter<W>) -> fmt::Result {
+        write!(f, "0x{:06X}", self.0)
     }
 }

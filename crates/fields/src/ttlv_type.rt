@@ -1,5 +1,5 @@
 ghost use Rattle.std.specs.Prelude.{◌≡◌, Some};
-ghost use Rattle.fields.specs.Types.{type_byte, type_name, TypesByte};
+ghost use Rattle.fields.specs.Types.{type_byte, type_letter, type_name, type_of_byte, TypesByte};
 
 use crate::refusals::TypeRefusal;
 use std::fmt;
@@ -21,7 +21,8 @@ pub enum TtlvType {
 impl TtlvType {
     /// The type that a type byte stands for.
     pub fn from_byte(byte: u8) -> Result<TtlvType, TypeRefusal>
-        ensures { TypesByte byte result }
+        ensures answer { result ≡ type_of_byte byte }
+        ensures types { TypesByte byte result }
     {
         match byte {
             0x01 => Ok(TtlvType::Structure),
@@ -43,6 +44,23 @@ impl TtlvType {
         ensures { result ≡ type_byte self.now }
     {
         *self as u8
+    }
+
+    /// The letter that stands for the type in diagnostic strings.
+    pub fn letter(&self) -> char
+        ensures { result ≡ type_letter self.now }
+    {
+        match self {
+            TtlvType::Structure => '[',
+            TtlvType::Integer => 'i',
+            TtlvType::LongInteger => 'l',
+            TtlvType::BigInteger => 'I',
+            TtlvType::Enumeration => 'e',
+            TtlvType::Boolean => 'b',
+            TtlvType::TextString => 't',
+            TtlvType::ByteString => 'o',
+            TtlvType::DateTime => 'd',
+        }
     }
 
     /// The type's name, with its byte.

@@ -37,3 +37,7 @@ whole (Second first) = false
 whole Tail1 = false
 whole Tail2 = false
 whole Bad = false
+
+-- Whether bytes are text, as it is decided: nothing but whole characters was seen in the end.
+unfoldable pub textual : List ℕ → Bool
+textual bytes = whole (run Start bytes)

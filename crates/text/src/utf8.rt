@@ -1,7 +1,7 @@
 ghost use Rattle.std.specs.Prelude.{◌≡◌, Decides};
 ghost use Rattle.ttlv.specs.Utf8.{Text};
-ghost use Rattle.text.specs.Deciding.{stepped, second, after_second_byte};
-ghost use Rattle.text.specs.Deciding.{whole as whole_text};
+ghost use Rattle.text.specs.Deciding.{stepped, second, after_second_byte, textual};
+ghost use Rattle.text.specs.Deciding.{whole as whole_text, run as ran};
 
 /// What was seen of a text so far.
 #[derive(Clone, Copy, PartialEq, Eq, Debug)]
@@ -70,6 +70,17 @@ impl Utf8 {
         }
     }
 
+    /// Takes several bytes more.
+    pub fn run(self, bytes: &[u8]) -> Utf8
+        ensures { result ≡ ran self bytes.now }
+    {
+        let mut seen = self;
+        for b in bytes {
+            seen = seen.step(*b);
+        }
+        seen
+    }
+
     /// Whether all characters seen are whole.
     pub fn is_whole(self) -> bool
         ensures { result ≡ whole_text self }
@@ -83,11 +94,8 @@ impl Utf8 {
 
 /// Whether `bytes` are text.
 pub fn is_text(bytes: &[u8]) -> bool
-    ensures { Decides result (Text bytes.now) }
+    ensures answer { result ≡ textual bytes.now }
+    ensures text { Decides result (Text bytes.now) }
 {
-    let mut seen = Utf8::Start;
-    for b in bytes {
-        seen = seen.step(*b);
-    }
-    seen.is_whole()
+    Utf8::Start.run(bytes).is_whole()
 }

@@ -1,5 +1,5 @@
 -- Numbers as bytes, the highest first, and padding.
-use Rattle.std.specs.Prelude.{List, [], ◌∷◌, cond, ℕ, zero, suc, ◌+◌, ◌-◌, ◌*◌, ◌/◌, ◌%◌, ◌^◌, eqb, length}
+use Rattle.std.specs.Prelude.{ℕ, zero, suc, ◌+◌, ◌-◌, ◌*◌, ◌/◌, ◌%◌, ◌^◌, cond, List, [], ◌∷◌, length, ◌==◌}
 
 -- The k bytes of a number (its lowest k, where it has more).
 abbrev pub be : ℕ → ℕ → List ℕ
@@ -14,4 +14,4 @@ of_be (b ∷ bytes) = b * 256 ^ length bytes + of_be bytes
 
 -- How many bytes follow a value of n bytes, up to a multiple of eight.
 abbrev pub padding : ℕ → ℕ
-padding n = cond (eqb (n % 8) 0) 0 (8 - n % 8)
+padding n = cond (n % 8 == 0) 0 (8 - n % 8)

@@ -1,1 +1,6 @@
-mod Putting
+pub mod Putting
+pub mod Judging
+mod Numbers
+mod Textual
+mod Extending
+mod Making

@@ -1,7 +1,7 @@
 -- Values put into sinks.
 use Rattle.std.proofs.Common.{◌≡◌, ℕ, ◌+◌, ◌-◌, ◌*◌, ◌/◌, ◌%◌, ◌<◌, ◌≤◌, Bool, true, false, cond, ◌&&◌, eqb, ltb, ◌⊎◌, List, [], ◌∷◌, ◌++◌, length, take, replicate, Ok, Err, Result, sym, refl, ap, ◌∙◌, subst, inl, inr, arith}
 use lib.Utf8.{scalar, scalars, encode, encodes, scalar_cases}
-use Rattle.std.proofs.lemmas.List.{length-append, length-replicate, append_assoc, take-replicate}
+use Rattle.std.proofs.lemmas.List.{length-append, length-replicate, append_assoc, take-replicate, take_at}
 use Rattle.std.proofs.lemmas.Bool.{and_parts, lt-ltb, le-ltb, cond-true, cond-false}
 use Rattle.std.proofs.lemmas.Bool.Decides.{nat_tests}
 use Rattle.streams.specs.declared.refusals.PutRefusal.{PutRefusal}
@@ -12,26 +12,11 @@ use Rattle.ttlv.specs.Utf8.{Scalar, written, Text, no_more, one_more}
 use Rattle.ttlv.specs.Kinds.{value_item, extended, sign_byte, Legal}
 use Rattle.values.specs.Writing.{Written}
 
--- The library's own text is text.
-written_encode : (c : ℕ) → written c ≡ encode c
-unfolding encode
-written_encode c = refl
-
-as_scalar : (c : ℕ) → (c < 55296) ⊎ ((57344 ≤ c) × (c < 1114112)) → Scalar c
-as_scalar c (inl h) = inl h
-as_scalar c (inr h) = inr (h.0, omega (arith, h.1))
-
-pub text_from : (cs bytes : List ℕ) → scalars cs ≡ true → encodes cs ≡ bytes → Text bytes
-text_from [] bytes s e = subst Text e no_more
-text_from (c ∷ cs) bytes s e =
-    let p = and_parts (scalar c) (scalars cs) s in
-    one_more c (encodes cs) bytes (as_scalar c (scalar_cases c p.0)) (ap (λ l. l ++ encodes cs) (written_encode c) ∙ e) (text_from cs (encodes cs) p.1 refl)
-
 -- Padding is short, and reaches a multiple of eight.
-padding_small : (n : ℕ) → padding n ≤ 8
+pub padding_small : (n : ℕ) → padding n ≤ 8
 padding_small n = grind (arith, nat_tests)
 
-padding_eights : (n : ℕ) → (n + padding n) % 8 ≡ 0
+pub padding_eights : (n : ℕ) → (n + padding n) % 8 ≡ 0
 padding_eights n = grind (arith, nat_tests)
 
 -- A front of equal bytes.
@@ -40,9 +25,6 @@ fronts k n b e =
     let h : padding n ≤ 8 = padding_small n in
     let f : k - 0 ≡ padding n = omega arith in
     ap (λ j. take j (replicate 8 b)) f ∙ take-replicate (padding n) 8 b h
-
-pub length_extended : (bytes : List ℕ) → length (extended bytes) ≡ length bytes + padding (length bytes)
-length_extended bytes = length-append (replicate (padding (length bytes)) (sign_byte bytes)) bytes ∙ (let l = length-replicate (padding (length bytes)) (sign_byte bytes) in omega arith)
 
 -- Two puts, and three.
 pub two_puts : (s₀ s₁ s₂ : Store) (a b all : List ℕ) → s₁ ≡ grown s₀ a → s₂ ≡ grown s₁ b → a ++ b ≡ all → s₂ ≡ grown s₀ all
@@ -72,23 +54,6 @@ all_written s t bytes h k e =
     let q = le-ltb s.memory.room (length bytes) k in
     record { number = sym (cond-false _ _ _ p ∙ cond-false _ _ _ q); after = e ∙ sym (cond-false _ _ _ p ∙ cond-false _ _ _ q) }
 
--- A Big Integer as written is legal.
-pub legal_extended : (bytes : List ℕ) → Legal 4 (extended bytes)
-legal_extended bytes =
-    let l = length_extended bytes in
-    let e = padding_eights (length bytes) in
-    record { long = refl; eights = λ _. ap (λ n. n % 8) l ∙ e; truth = λ q. omega arith; text = λ q. absurd (omega arith) }
-
--- The front of a Big Integer, as it is put.
-pub front_of : (bytes : List ℕ) (k b : ℕ) → k ≡ padding (length bytes) → b ≡ sign_byte bytes → take (k - 0) (replicate 8 b) ++ bytes ≡ extended bytes
-front_of bytes k b e f = ap (λ l. l ++ bytes) (fronts k (length bytes) b e ∙ ap (replicate (padding (length bytes))) f)
-
-pub front_fits : (bytes : List ℕ) (k b room : ℕ) → k ≡ padding (length bytes) → length (extended bytes) ≤ room → room < length (take (k - 0) (replicate 8 b)) → ⊥
-front_fits bytes k b room e h l =
-    let n : length (take (k - 0) (replicate 8 b)) ≡ padding (length bytes) = ap length (fronts k (length bytes) b e) ∙ length-replicate (padding (length bytes)) b in
-    let m = length_extended bytes in
-    omega arith
-
 -- A second put after a first that had room for both.
 pub puts_then : {X : Type 0} (s₀ s₁ s₂ : Store) (a b all : List ℕ) (r : Result X PutRefusal) → s₁ ≡ grown s₀ a → a ++ b ≡ all → length all ≤ s₀.memory.room → Puts s₁ s₂ b r → Puts s₀ s₂ all r
 puts_then s₀ s₁ s₂ a b all (Ok x) p e h q = (h, two_puts s₀ s₁ s₂ a b all p q.1 e)
@@ -96,3 +61,21 @@ puts_then s₀ s₁ s₂ a b all (Err x) p e h q =
     let room : s₁.memory.room ≡ s₀.memory.room - length a = ap (λ s. s.memory.room) p in
     let l : length all ≡ length a + length b = ap length (sym e) ∙ length-append a b in
     absurd (omega (arith, q.0))
+
+-- A value of fixed length with its length and its padding.
+eight_padding : (n : ℕ) → 0 < n → n ≤ 8 → padding n ≡ 8 - n
+eight_padding n h k = grind (arith, nat_tests)
+
+pub item_fixed : (bytes len eight : List ℕ) (n : ℕ) → length bytes ≡ n → 0 < n → n ≤ 8 → len ≡ be 4 n → eight ≡ bytes ++ replicate (8 - n) 0 → len ++ eight ≡ value_item bytes
+item_fixed bytes len eight n e h k p q =
+    ap (λ l. l ++ eight) (p ∙ ap (be 4) (sym e)) ∙ ap (λ l. be 4 (length bytes) ++ l) (q ∙ ap (λ m. bytes ++ replicate m 0) (sym (ap padding e ∙ eight_padding n h k)))
+
+pub length_fixed : (bytes : List ℕ) (n : ℕ) → length bytes ≡ n → 0 < n → n ≤ 8 → length (value_item bytes) ≡ 12
+length_fixed bytes n e h k =
+    let l = length_value_item bytes in
+    let p : padding (length bytes) ≡ 8 - n = ap padding e ∙ eight_padding n h k in
+    omega arith
+
+-- The front of a list that begins with bytes.
+pub front_is : (part bytes rest : List ℕ) (n : ℕ) → part ≡ bytes → length bytes ≡ n → take n (part ++ rest) ≡ bytes
+front_is part bytes rest n e h = take_at part rest n (ap length e ∙ h) ∙ e

@@ -1,2 +1,4 @@
 pub mod Refusals
+pub mod Legal
 pub mod Writing
+pub mod Any

@@ -1,7 +1,9 @@
-ghost use Rattle.std.specs.Prelude.{◌≡◌};
 ghost use Rattle.ttlv.specs.Kinds.{truth_bytes};
+ghost use Rattle.values.specs.Legal.{Makes};
 ghost use Rattle.fields.specs.declared.ttlv_type.TtlvType.TheVariants.{Boolean as boolean};
 
+use crate::legal::check_value;
+use crate::refusals::ValueRefusal;
 use crate::value::SerializableTtlvType;
 use fields::ttlv_type::TtlvType;
 use streams::refusals::PutRefusal;
@@ -10,6 +12,16 @@ use streams::sink::Sink;
 /// True or false, in eight bytes.
 #[derive(Clone, Copy, PartialEq, Eq, Debug)]
 pub struct TtlvBoolean(pub bool);
+
+impl TtlvBoolean {
+    /// Makes a Boolean of its bytes.
+    pub fn from_bytes(bytes: &[u8]) -> Result<TtlvBoolean, ValueRefusal>
+        ensures { Makes (λ v. truth_bytes v.0) boolean bytes.now result }
+    {
+        check_value(TtlvType::Boolean, bytes)?;
+        Ok(TtlvBoolean(bytes[7] == 1))
+    }
+}
 
 impl SerializableTtlvType for TtlvBoolean {
     ghost kind = { λ _. boolean };

@@ -1,7 +1,8 @@
-ghost use Rattle.std.specs.Prelude.{◌≡◌};
-ghost use Rattle.ttlv.specs.Kinds.{extended};
+ghost use Rattle.values.specs.Legal.{Makes};
 ghost use Rattle.fields.specs.declared.ttlv_type.TtlvType.TheVariants.{TextString as textString, ByteString as byteString};
 
+use crate::legal::check_value;
+use crate::refusals::ValueRefusal;
 use crate::value::SerializableTtlvType;
 use fields::ttlv_type::TtlvType;
 use streams::refusals::PutRefusal;
@@ -14,6 +15,17 @@ pub struct TtlvByteString<'a>(pub &'a [u8]);
 /// Text, in UTF-8.
 #[derive(Clone, Copy)]
 pub struct TtlvTextString<'a>(pub &'a str);
+
+impl<'a> TtlvTextString<'a> {
+    /// Makes a text of its bytes.
+    pub fn from_bytes(bytes: &'a [u8]) -> Result<TtlvTextString<'a>, ValueRefusal>
+        ensures { Makes (λ v. v.0.now) textString bytes.now result }
+    {
+        check_value(TtlvType::TextString, bytes)?;
+        // the decision was made above
+        Ok(TtlvTextString(unsafe { std::str::from_utf8_unchecked(bytes) }))
+    }
+}
 
 impl SerializableTtlvType for TtlvByteString<'_> {
     ghost kind = { λ _. byteString };

@@ -5,11 +5,14 @@ use crate::date_time::TtlvDateTime;
 use crate::enumeration::TtlvEnumeration;
 use crate::integer::TtlvInteger;
 use crate::long_integer::TtlvLongInteger;
-use crate::refusals::WriteRefusal;
+use crate::refusals::{ValueRefusal, WriteRefusal};
 use crate::strings::{TtlvByteString, TtlvTextString};
+use crate::ttlv_value::TtlvValue;
 use crate::value::SerializableTtlvType;
 use crate::write::write_value;
+use fields::ttlv_type::TtlvType;
 use std::process::Abort;
+use std::test::Fail;
 use streams::buffer_sink::BufferSink;
 
 // Writes a value, and holds what stands in the sink against `bytes`.
@@ -89,4 +92,100 @@ fn a_value_is_written_whole_or_not_at_all(rt: HostRuntime) {
         Err(WriteRefusal::NoRoom)
     );
     assert!(rt; &buf == b"\x09\x09\x09\x09\x09\x09\x09\x09\x09\x09\x09");
+}
+
+// Makes a value of a kind of bytes, and holds what it is written as against `written`.
+fn makes(rt: &impl Abort, kind: TtlvType, bytes: &[u8], written: &[u8]) -> Result<(), Fail> {
+    let Ok(v) = TtlvValue::from_bytes(kind, bytes) else {
+        assert!(rt; false);
+        return Ok(());
+    };
+    assert_eq!(rt; v.ttlv_type(), kind);
+    writes(rt, &v, written);
+    Ok(())
+}
+
+// The number under which making a value is refused, 0 if it is not.
+fn refusal_of(kind: TtlvType, bytes: &[u8]) -> u8 {
+    match TtlvValue::from_bytes(kind, bytes) {
+        Ok(_) => 0,
+        Err(e) => e.number(),
+    }
+}
+
+#[test]
+fn a_value_of_each_kind_is_made_of_its_bytes(rt: HostRuntime) -> Result<(), Fail> {
+    makes(
+        &rt,
+        TtlvType::Integer,
+        b"\xFF\xFF\xFF\xFE",
+        b"\x00\x00\x00\x04\xFF\xFF\xFF\xFE\x00\x00\x00\x00",
+    )?;
+    makes(
+        &rt,
+        TtlvType::LongInteger,
+        b"\x80\x00\x00\x00\x00\x00\x00\x01",
+        b"\x00\x00\x00\x08\x80\x00\x00\x00\x00\x00\x00\x01",
+    )?;
+    makes(
+        &rt,
+        TtlvType::BigInteger,
+        b"\x80",
+        b"\x00\x00\x00\x08\xFF\xFF\xFF\xFF\xFF\xFF\xFF\x80",
+    )?;
+    makes(
+        &rt,
+        TtlvType::Enumeration,
+        b"\xFF\x00\x00\x01",
+        b"\x00\x00\x00\x04\xFF\x00\x00\x01\x00\x00\x00\x00",
+    )?;
+    makes(
+        &rt,
+        TtlvType::Boolean,
+        b"\x00\x00\x00\x00\x00\x00\x00\x01",
+        b"\x00\x00\x00\x08\x00\x00\x00\x00\x00\x00\x00\x01",
+    )?;
+    makes(
+        &rt,
+        TtlvType::TextString,
+        b"\xC3\xA9",
+        b"\x00\x00\x00\x02\xC3\xA9\x00\x00\x00\x00\x00\x00",
+    )?;
+    makes(
+        &rt,
+        TtlvType::ByteString,
+        b"\xC0\x80",
+        b"\x00\x00\x00\x02\xC0\x80\x00\x00\x00\x00\x00\x00",
+    )?;
+    makes(
+        &rt,
+        TtlvType::DateTime,
+        b"\x00\x00\x00\x00\x47\xDA\x67\xF8",
+        b"\x00\x00\x00\x08\x00\x00\x00\x00\x47\xDA\x67\xF8",
+    )
+}
+
+#[test]
+fn no_value_is_made_of_other_bytes(rt: HostRuntime) {
+    assert_eq!(rt;
+        TtlvBoolean::from_bytes(b"\x00\x00\x00\x00\x00\x00\x00\x02"),
+        Err(ValueRefusal::InvalidTtlvValue {
+            kind: TtlvType::Boolean,
+        })
+    );
+    assert_eq!(rt;
+        TtlvBoolean::from_bytes(b"\x00\x00\x00\x01"),
+        Err(ValueRefusal::InvalidTtlvValueLength {
+            expected: 8,
+            actual: 4,
+            kind: TtlvType::Boolean,
+        })
+    );
+    assert_eq!(rt;
+        refusal_of(TtlvType::Boolean, b"\x00\x00\x00\x00\x00\x00\x00\x02"),
+        5
+    );
+    assert_eq!(rt; refusal_of(TtlvType::TextString, b"\xC0\x80"), 5);
+    assert_eq!(rt; refusal_of(TtlvType::Integer, b"\x00\x00\x01"), 4);
+    assert_eq!(rt; refusal_of(TtlvType::Structure, b""), 5);
 }

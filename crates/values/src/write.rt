@@ -1,4 +1,5 @@
-ghost use Rattle.ttlv.specs.Kinds.{value_item};
+ghost use Rattle.ttlv.specs.Kinds.{value_item, Legal};
+ghost use Rattle.fields.specs.Types.{type_byte};
 ghost use Rattle.values.specs.Writing.{Written, write_answer};
 
 use crate::padding::padding_of;
@@ -9,9 +10,10 @@ use streams::sink::Sink;
 /// The most bytes that a message has.
 pub const MESSAGE_LIMIT: usize = 16_777_216;
 
-/// Writes a value alone: its length, its bytes and its padding, all or nothing.
+/// Writes a value alone: its length, its bytes, which are legal by the table of kinds, and its padding, all or nothing.
 pub fn write_value<V: SerializableTtlvType, S: Sink>(v: &V, dst: &mut S) -> Result<(), WriteRefusal>
-    ensures { Written (write_answer result) (S.store dst.old) (S.store dst.new) (value_item (V.value v.now)) }
+    ensures writes { Written (write_answer result) (S.store dst.old) (S.store dst.new) (value_item (V.value v.now)) }
+    ensures legal { Legal (type_byte (V.kind v.now)) (V.value v.now) }
 {
     let len = v.value_len();
     if len > MESSAGE_LIMIT {

@@ -1,6 +1,7 @@
 use Rattle.std.proofs.Common.{◌-◌, take, replicate, arith}
 use Rattle.ttlv.specs.Kinds.{extended}
-use Rattle.values.proofs.Putting.{front_of, front_fits, puts_then}
+use Rattle.values.proofs.Putting.{puts_then}
+use Rattle.values.proofs.Extending.{front_of, front_fits}
 use Rattle.values.proofs.big_integer.TtlvBigIntegerSerializableTtlvType.put_value.Goals as goal
 
 pub returns-in_err-put : goal.returns-in_err-put

@@ -1,5 +1,5 @@
 use Rattle.std.proofs.Common.{◌+◌, length, sym, ap, ◌∙◌}
-use Rattle.values.proofs.Putting.{length_extended, legal_extended}
+use Rattle.values.proofs.Extending.{length_extended, legal_extended}
 use Rattle.values.proofs.big_integer.TtlvBigIntegerSerializableTtlvType.value_len.Goals as goal
 
 pub returns : goal.returns

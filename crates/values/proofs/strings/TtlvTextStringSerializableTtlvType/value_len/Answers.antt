@@ -1,6 +1,6 @@
 use Rattle.std.proofs.Common.{length, refl, ap, subst, arith}
 use Rattle.ttlv.specs.Utf8.{Text}
-use Rattle.values.proofs.Putting.{text_from}
+use Rattle.values.proofs.Textual.{text_from}
 use Rattle.values.proofs.strings.TtlvTextStringSerializableTtlvType.value_len.Goals as goal
 
 pub returns : goal.returns
