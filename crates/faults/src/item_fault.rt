@@ -1,6 +1,6 @@
 ghost use Rattle.std.specs.Prelude.{◌≡◌, Some};
 ghost use Rattle.faults.specs.Faults.{item_number, item_text, layer_of};
-ghost use Rattle.faults.specs.declared.item_fault.ItemFault.TheVariants.{Source as fromSource, Value as fromValue, «Type» as fromType, Field as fromField};
+ghost use Rattle.faults.specs.declared.item_fault.ItemFault.TheVariants.{Source as from_source, Value as from_value, «Type» as from_type, Field as from_field};
 
 use crate::layer::Layer;
 use fields::refusals::{AdvanceRefusal, TypeRefusal};
@@ -47,7 +47,7 @@ impl ItemFault {
 }
 
 impl From<ReadRefusal> for ItemFault {
-    ghost from_gives = { λ e r. r ≡ fromSource e };
+    ghost from_gives = { λ e r. r ≡ from_source e };
 
     fn from(ended: ReadRefusal) -> ItemFault {
         ItemFault::Source(ended)
@@ -55,7 +55,7 @@ impl From<ReadRefusal> for ItemFault {
 }
 
 impl From<ValueFault> for ItemFault {
-    ghost from_gives = { λ e r. r ≡ fromValue e };
+    ghost from_gives = { λ e r. r ≡ from_value e };
 
     fn from(fault: ValueFault) -> ItemFault {
         ItemFault::Value(fault)
@@ -63,7 +63,7 @@ impl From<ValueFault> for ItemFault {
 }
 
 impl From<TypeRefusal> for ItemFault {
-    ghost from_gives = { λ e r. r ≡ fromType e };
+    ghost from_gives = { λ e r. r ≡ from_type e };
 
     fn from(refusal: TypeRefusal) -> ItemFault {
         ItemFault::Type(refusal)
@@ -71,7 +71,7 @@ impl From<TypeRefusal> for ItemFault {
 }
 
 impl From<AdvanceRefusal> for ItemFault {
-    ghost from_gives = { λ e r. r ≡ fromField e };
+    ghost from_gives = { λ e r. r ≡ from_field e };
 
     fn from(refusal: AdvanceRefusal) -> ItemFault {
         ItemFault::Field(refusal)

@@ -1,13 +1,13 @@
 -- The hexadecimal sink layer, over what lies below it.
-use Rattle.std.proofs.Common.{◌≡◌, ℕ, suc, ◌+◌, ◌-◌, ◌*◌, ◌/◌, ◌%◌, ◌<◌, ◌≤◌, min, Bool, true, false, cond, eqb, List, [], ◌∷◌, ◌++◌, length, get_or, take, drop, set, unwrap_or, sym, refl, ap, ◌∙◌, subst, add-one, arith}
-use Rattle.std.proofs.lemmas.List.{drop_at, drop_more, set_at, set_split, append-nil, take_all, take_more, take-append-drop, append_assoc, get_or_at, length-append, length-take-le}
+use Rattle.std.proofs.Common.{◌≡◌, ℕ, suc, ◌+◌, ◌-◌, ◌*◌, ◌/◌, ◌%◌, ◌<◌, ◌≤◌, min, List, [], ◌∷◌, ◌++◌, length, get_or, take, drop, set, unwrap_or, sym, refl, ap, ◌∙◌, arith}
+use Rattle.std.proofs.lemmas.List.{drop_at, drop_more, set_at, set_split, append-nil, take_all, take_more, take-append-drop, get_or_at, length-append, length-take-le}
 use Rattle.std.proofs.lemmas.Bool.Decides.{nat_tests}
 use Rattle.streams.specs.Sources.{Handed}
-use Rattle.streams.specs.Memories.{Memory, Layer, overwritten, mended, appended, appended_below, mended_below}
+use Rattle.streams.specs.Memories.{overwritten}
 use Rattle.streams.specs.Sinks.{Store, grown, patched}
 use Rattle.streams.proofs.Rewrites.{length_overwritten}
-use Rattle.streams.proofs.Growing.{same_store, same_memory, patched_twice, patched_none}
-use Rattle.hexadecimal.specs.Digits.{nibble, nibble_or_0, digit, digits, hexed, hex_spelling}
+use Rattle.streams.proofs.Growing.{same_store, same_memory, patched_twice}
+use Rattle.hexadecimal.specs.Digits.{nibble_or_0, digit, digits, hexed}
 use Rattle.hexadecimal.specs.Pairs.{paired, spelled}
 use Rattle.hexadecimal.specs.Layers.{hex_room, hex_store}
 use Rattle.hexadecimal.proofs.Spelled.{nibble_digit, reads_what_was_written}

@@ -1,12 +1,12 @@
 -- What digit pairs spell.
-use Rattle.std.proofs.Common.{◌≡◌, ℕ, suc, ◌+◌, ◌-◌, ◌*◌, ◌/◌, ◌%◌, ◌<◌, ◌≤◌, min, Bool, true, false, cond, eqb, ltb, leb, ◌⊎◌, List, [], ◌∷◌, ◌++◌, length, get_or, take, drop, Some, None, Option, sym, refl, ap, ◌∙◌, subst, inl, inr, ⊎_elim, arith}
+use Rattle.std.proofs.Common.{◌≡◌, ℕ, suc, ◌+◌, ◌*◌, ◌/◌, ◌%◌, ◌<◌, ◌≤◌, Bool, true, false, ◌⊎◌, List, [], ◌∷◌, ◌++◌, length, get_or, take, drop, Some, None, Option, sym, refl, ap, ◌∙◌, inl, inr, arith}
 use Rattle.std.proofs.lemmas.List.{drop-drop, drop_all, nil_from_length}
 use Rattle.std.proofs.lemmas.Bool.{cases_lt, lt-ltb, le-ltb, cond-true, cond-false}
 use Rattle.std.proofs.lemmas.Bool.Decides.{nat_tests}
-use Rattle.hexadecimal.specs.Digits.{nibble, nibble_or_0, digit, digits, both, hexed}
-use Rattle.hexadecimal.specs.Pairs.{led, spelled, paired}
+use Rattle.hexadecimal.specs.Digits.{nibble, digit, digits, both, hexed}
+use Rattle.hexadecimal.specs.Pairs.{led, spelled}
 use Rattle.hexadecimal.specs.Layers.{hex_ahead, hex_asked, Reading}
-use Rattle.hexadecimal.specs.Laws.{AllPairs, no_more, one_more, NoPair, LongestRun, SpellsLongestRun, ReadsWhatWasWritten}
+use Rattle.hexadecimal.specs.Laws.{no_more, one_more, LongestRun, SpellsLongestRun, ReadsWhatWasWritten}
 
 -- A digit is the digit of its own value.
 pub nibble_digit : (n : ℕ) → n < 16 → nibble (digit n) ≡ Some n

@@ -2,7 +2,6 @@
 use Rattle.std.specs.Prelude.{◌≡◌, ℕ, ◌+◌, ◌*◌, ◌/◌, ◌%◌, ◌<◌, ◌≤◌, min, Bool, true, false, cond, List, [], ◌∷◌, ◌++◌, length, take, drop, Some, None, Ok, Err, Option, Result, ◌==◌, nat_lt}
 use Rattle.streams.specs.declared.refusals.PutRefusal.{PutRefusal}
 use Rattle.streams.specs.Refusals.{put_number}
-use Rattle.streams.specs.Memories.{Memory, Layer}
 use Rattle.streams.specs.Sinks.{Store, grown}
 use Rattle.hexadecimal.specs.Digits.{hex_spelling, hexed}
 use Rattle.hexadecimal.specs.Pairs.{spelled, paired}

@@ -1,7 +1,7 @@
 ghost use Rattle.std.specs.Prelude.{◌≡◌, ℕ, List, length, take, Ok, slice_index};
 ghost use Rattle.ttlv.specs.Numbers.{of_be};
 ghost use Rattle.fields.specs.Types.{type_of_byte};
-ghost use Rattle.fields.specs.declared.field_type.FieldType.TheVariants.{Tag as tagField, «Type» as typeField, Length as lengthField};
+ghost use Rattle.fields.specs.declared.field_type.FieldType.TheVariants.{Tag as tag_field, «Type» as type_field, Length as length_field};
 ghost use Rattle.items.specs.Fields.{ReadsField, FillsField, typed};
 
 use faults::item_fault::ItemFault;
@@ -30,7 +30,7 @@ fn read_field<R: Source>(
 
 /// Reads a tag, if the state machine expects one.
 pub fn read_tag<R: Source>(src: &mut R, state: &mut TtlvStateMachine) -> Result<TtlvTag, ItemFault>
-    ensures { ReadsField tagField 3 (Ok record { 0 = of_be (take 3 (R.ahead src.old)) }) state.old state.new (R.ahead src.old) (R.ahead src.new) result }
+    ensures { ReadsField tag_field 3 (Ok record { 0 = of_be (take 3 (R.ahead src.old)) }) state.old state.new (R.ahead src.old) (R.ahead src.new) result }
 {
     let mut bytes = [0u8; 3];
     read_field(src, state, FieldType::Tag, &mut bytes)?;
@@ -42,7 +42,7 @@ pub fn read_type<R: Source>(
     src: &mut R,
     state: &mut TtlvStateMachine,
 ) -> Result<TtlvType, ItemFault>
-    ensures { ReadsField typeField 1 (typed (type_of_byte (slice_index (R.ahead src.old) 0))) state.old state.new (R.ahead src.old) (R.ahead src.new) result }
+    ensures { ReadsField type_field 1 (typed (type_of_byte (slice_index (R.ahead src.old) 0))) state.old state.new (R.ahead src.old) (R.ahead src.new) result }
 {
     let mut bytes = [0u8; 1];
     read_field(src, state, FieldType::Type, &mut bytes)?;
@@ -55,7 +55,7 @@ pub fn read_length<R: Source>(
     src: &mut R,
     state: &mut TtlvStateMachine,
 ) -> Result<TtlvLength, ItemFault>
-    ensures { ReadsField lengthField 4 (Ok record { 0 = of_be (take 4 (R.ahead src.old)) }) state.old state.new (R.ahead src.old) (R.ahead src.new) result }
+    ensures { ReadsField length_field 4 (Ok record { 0 = of_be (take 4 (R.ahead src.old)) }) state.old state.new (R.ahead src.old) (R.ahead src.new) result }
 {
     let mut bytes = [0u8; 4];
     read_field(src, state, FieldType::Length, &mut bytes)?;

@@ -1,14 +1,14 @@
 -- What was written is read back.
-use Rattle.std.proofs.Common.{◌≡◌, ℕ, ◌+◌, ◌-◌, ◌^◌, ◌<◌, ◌≤◌, min, true, ◌⊎◌, List, [], ◌∷◌, ◌++◌, length, take, drop, replicate, sym, refl, ap, ◌∙◌, inl, inr, arith}
+use Rattle.std.proofs.Common.{◌≡◌, ℕ, ◌+◌, ◌-◌, ◌^◌, ◌<◌, ◌≤◌, min, true, ◌⊎◌, List, ◌++◌, length, take, drop, replicate, sym, refl, ap, ◌∙◌, inl, inr, arith}
 use Rattle.std.proofs.lemmas.List.{length-append, take_at, append_assoc, append-nil, take_all, drop_all, take-append-drop, drop-append-le, length-take-le}
 use Rattle.std.proofs.lemmas.Bool.{le-leb, cases_lt}
-use Rattle.ttlv.specs.Numbers.{be, of_be, padding}
+use Rattle.ttlv.specs.Numbers.{padding}
 use Rattle.ttlv.specs.Kinds.{Legal, value_item, fits}
 use Rattle.ttlv.proofs.Reading.{of_be_be}
-use Rattle.values.specs.Legal.{good, Good}
+use Rattle.values.specs.Legal.{good}
 use Rattle.values.proofs.Judging.{decides_good}
 use Rattle.values.proofs.Putting.{length_value_item}
-use Rattle.reading.specs.Stages.{told_length, told_value, into_scratch, without_scratch, whole}
+use Rattle.reading.specs.Stages.{told_length, told_value}
 use Rattle.reading.specs.Reads.{ReadBack, ReadsBackWhatIsWritten}
 use Rattle.reading.proofs.Staged.{stage_6}
 

@@ -1,5 +1,5 @@
 -- Reading a value of fixed length.
-use Rattle.std.proofs.Common.{◌≡◌, ℕ, ◌+◌, ◌-◌, ◌<◌, ◌≤◌, Bool, true, false, cond, not, eqb, ltb, leb, List, [], ◌∷◌, ◌++◌, length, take, drop, Ok, Err, Result, sym, refl, ap, ◌∙◌, subst, arith}
+use Rattle.std.proofs.Common.{◌≡◌, ℕ, ◌+◌, ◌≤◌, Bool, true, false, cond, not, eqb, ltb, leb, List, length, take, drop, Ok, Err, sym, refl, ap, ◌∙◌, arith}
 use Rattle.std.proofs.lemmas.List.{length-drop, length-take-le, take_at}
 use Rattle.std.proofs.lemmas.Bool.{ltb-false, eqb-true, le-leb}
 use Rattle.ttlv.specs.Numbers.{padding}
@@ -8,7 +8,7 @@ use Rattle.fields.specs.declared.ttlv_type.TtlvType.{TtlvType}
 use Rattle.fields.specs.Types.{type_byte}
 use Rattle.values.specs.Legal.{good}
 use Rattle.reading.specs.declared.refusals.ValueFault.{ValueFault}
-use Rattle.reading.specs.Stages.{Stage, cut_in_length, wrong_length, no_scratch, cut_in_value, bad_value, cut_in_padding, whole, stage, told_length, told_value, into_scratch, without_scratch, answered, taken, came}
+use Rattle.reading.specs.Stages.{Stage, cut_in_length, wrong_length, no_scratch, cut_in_value, bad_value, cut_in_padding, whole, stage, told_length, told_value, into_scratch, without_scratch, answered, taken}
 use Rattle.reading.specs.Reads.{Stops, ReadsValue, scratched}
 
 -- Stages apart.

@@ -1,6 +1,6 @@
 -- Bytes passed over, some at a time.
 use Rattle.std.proofs.Common.{◌≡◌, ℕ, ◌+◌, ◌-◌, ◌<◌, ◌≤◌, List, [], ◌∷◌, ◌++◌, length, take, drop, sym, refl, ap, ◌∙◌, subst, arith}
-use Rattle.std.proofs.lemmas.List.{take_at, take_all, drop_all, drop-drop, length-take, length-take-le, length-drop, length-append}
+use Rattle.std.proofs.lemmas.List.{take_at, drop_all, drop-drop, length-take-le, length-drop}
 use Rattle.streams.specs.declared.refusals.ReadRefusal.TheVariants.{Ended}
 use Rattle.streams.specs.Sources.{Handed}
 use Rattle.streams.proofs.Going.{take_add}

@@ -1,10 +1,10 @@
 -- The stages of reading a value, from what its parts answer.
-use Rattle.std.proofs.Common.{◌≡◌, ℕ, ◌+◌, ◌-◌, ◌<◌, ◌≤◌, min, Bool, true, false, cond, not, ltb, leb, List, [], ◌∷◌, ◌++◌, length, take, drop, Ok, Err, Result, sym, refl, ap, ◌∙◌, subst, add_assoc, arith}
-use Rattle.std.proofs.lemmas.List.{length-drop, drop-drop, drop_all, take_all, length-take-le}
+use Rattle.std.proofs.Common.{◌≡◌, ℕ, ◌+◌, ◌-◌, ◌<◌, ◌≤◌, min, Bool, true, false, cond, not, ltb, leb, List, ◌++◌, length, take, drop, Ok, Err, Result, sym, refl, ap, ◌∙◌, subst, arith}
+use Rattle.std.proofs.lemmas.List.{length-drop, drop-drop, drop_all, length-take-le}
 use Rattle.std.proofs.lemmas.Bool.{lt-ltb, le-ltb, ltb-true, ltb-false, cond-true, cond-false}
 use Rattle.streams.specs.declared.refusals.ReadRefusal.{ReadRefusal}
 use Rattle.streams.specs.declared.refusals.ReadRefusal.TheVariants.{Ended}
-use Rattle.ttlv.specs.Numbers.{of_be, padding}
+use Rattle.ttlv.specs.Numbers.{padding}
 use Rattle.ttlv.specs.Kinds.{fits}
 use Rattle.fields.specs.declared.ttlv_type.TtlvType.{TtlvType}
 use Rattle.fields.specs.Types.{type_byte}

@@ -1,9 +1,8 @@
 -- A value written and read back.
-use Rattle.std.proofs.Common.{◌≡◌, ℕ, ◌+◌, ◌-◌, ◌^◌, ◌<◌, ◌≤◌, Bool, true, false, cond, eqb, ltb, leb, List, [], ◌∷◌, ◌++◌, length, take, drop, Ok, Err, Result, sym, refl, ap, ◌∙◌, subst, arith}
+use Rattle.std.proofs.Common.{◌≡◌, ℕ, ◌^◌, ◌<◌, Bool, true, false, cond, eqb, ltb, leb, List, [], ◌++◌, length, drop, Ok, Err, Result, sym, refl, ap, ◌∙◌, subst, arith}
 use Rattle.std.proofs.lemmas.List.{drop_at, append-nil, length-append}
 use Rattle.std.proofs.lemmas.Bool.{ltb-false, leb-true, eq-eqb, cond-true, cond-false}
 use Rattle.streams.specs.Sinks.{Store, grown}
-use Rattle.ttlv.specs.Numbers.{padding}
 use Rattle.ttlv.specs.Kinds.{fits, value_item, Legal}
 use Rattle.fields.specs.declared.ttlv_type.TtlvType.{TtlvType}
 use Rattle.fields.specs.Types.{type_byte}
@@ -17,7 +16,7 @@ use Rattle.reading.specs.declared.refusals.ValueFault.{ValueFault}
 use Rattle.reading.specs.declared.refusals.ValueFault.TheVariants.{ScratchTooShort}
 use Rattle.reading.specs.declared.round_trip.RoundTripFault.{RoundTripFault}
 use Rattle.reading.specs.declared.round_trip.RoundTripFault.TheVariants.{Write, Read}
-use Rattle.reading.specs.Stages.{Stage, whole, no_scratch, told_length, told_value, into_scratch, without_scratch, answered}
+use Rattle.reading.specs.Stages.{whole, no_scratch, told_length, told_value, into_scratch, without_scratch, answered}
 use Rattle.reading.specs.Reads.{Stops, ReadsValue, ReadBack, scratched}
 use Rattle.reading.specs.Trips.{written_or, RoundTrip, FixedTrip}
 use Rattle.reading.proofs.Staged.{stage_2}

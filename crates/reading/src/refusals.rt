@@ -1,6 +1,6 @@
 ghost use Rattle.std.specs.Prelude.{◌≡◌, Some};
 ghost use Rattle.reading.specs.Refusals.{fault_number, fault_text};
-ghost use Rattle.reading.specs.declared.refusals.ValueFault.TheVariants.{Source as fromSource, Value as fromValue};
+ghost use Rattle.reading.specs.declared.refusals.ValueFault.TheVariants.{Source as from_source, Value as from_value};
 
 use std::fmt;
 use streams::refusals::ReadRefusal;
@@ -31,7 +31,7 @@ impl ValueFault {
 }
 
 impl From<ReadRefusal> for ValueFault {
-    ghost from_gives = { λ e r. r ≡ fromSource e };
+    ghost from_gives = { λ e r. r ≡ from_source e };
 
     fn from(ended: ReadRefusal) -> ValueFault {
         ValueFault::Source(ended)
@@ -39,7 +39,7 @@ impl From<ReadRefusal> for ValueFault {
 }
 
 impl From<ValueRefusal> for ValueFault {
-    ghost from_gives = { λ e r. r ≡ fromValue e };
+    ghost from_gives = { λ e r. r ≡ from_value e };
 
     fn from(refusal: ValueRefusal) -> ValueFault {
         ValueFault::Value(refusal)

@@ -2,7 +2,7 @@ ghost use Rattle.std.specs.Prelude.{◌≡◌};
 ghost use Rattle.ttlv.specs.Kinds.{ExtensionKeepsTheNumber};
 ghost use Rattle.reading.specs.Refusals.{trip_number};
 ghost use Rattle.reading.specs.Trips.{RoundTrip, FixedTrip};
-ghost use Rattle.reading.specs.declared.round_trip.RoundTripFault.TheVariants.{Write as fromWrite, Read as fromRead};
+ghost use Rattle.reading.specs.declared.round_trip.RoundTripFault.TheVariants.{Write as from_write, Read as from_read};
 
 use crate::fixed::read_fixed;
 use crate::read::read_value;
@@ -36,7 +36,7 @@ impl RoundTripFault {
 }
 
 impl From<WriteRefusal> for RoundTripFault {
-    ghost from_gives = { λ e r. r ≡ fromWrite e };
+    ghost from_gives = { λ e r. r ≡ from_write e };
 
     fn from(refusal: WriteRefusal) -> RoundTripFault {
         RoundTripFault::Write(refusal)
@@ -44,7 +44,7 @@ impl From<WriteRefusal> for RoundTripFault {
 }
 
 impl From<ValueFault> for RoundTripFault {
-    ghost from_gives = { λ e r. r ≡ fromRead e };
+    ghost from_gives = { λ e r. r ≡ from_read e };
 
     fn from(fault: ValueFault) -> RoundTripFault {
         RoundTripFault::Read(fault)

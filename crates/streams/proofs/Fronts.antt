@@ -1,8 +1,8 @@
 -- A caller's buffer whose front is held; the front's length may be past the buffer's end.
-use Rattle.std.proofs.Common.{◌≡◌, ℕ, ◌+◌, ◌-◌, ◌<◌, ◌≤◌, min, List, [], ◌∷◌, ◌++◌, length, take, drop, sym, refl, ap, ◌∙◌, arith}
+use Rattle.std.proofs.Common.{◌≡◌, ℕ, ◌+◌, ◌-◌, ◌≤◌, min, List, length, take, drop, sym, refl, ap, ◌∙◌, arith}
 use borrow.Rule.Slice.PartMut.{put_mid}
 use Rattle.std.proofs.lemmas.List.{length-take, drop-drop}
-use Rattle.streams.specs.Sinks.{Store, grown, patched, buffer_store}
+use Rattle.streams.specs.Sinks.{grown, patched, buffer_store}
 use Rattle.streams.specs.Memories.{overwritten}
 use Rattle.streams.proofs.Rewrites.{put_mid_is, take_min, drop_min, length_overwritten, take_overwritten, drop_overwritten, overwritten_take, overwritten_drop}
 use Rattle.streams.proofs.Growing.{same_store, same_memory}

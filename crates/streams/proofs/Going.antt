@@ -1,8 +1,7 @@
 -- Reads that repeat.
 use Rattle.std.proofs.Common.{◌≡◌, ℕ, ◌+◌, ◌-◌, ◌<◌, ◌≤◌, min, List, [], ◌∷◌, ◌++◌, length, get_or, take, drop, set, sym, refl, ap, ◌∙◌, subst, arith}
-use borrow.Rule.Slice.PartMut.{put_mid, post_of}
+use borrow.Rule.Slice.PartMut.{put_mid}
 use Rattle.std.proofs.lemmas.List.{drop-drop, drop-take, drop_all, drop_at, drop_more, take_at, take-take, take_rest, take_all, take_more, take-append-drop, append_assoc, append-nil, set_at, length-take-le, length-drop}
-use Rattle.streams.specs.declared.refusals.ReadRefusal.{ReadRefusal}
 use Rattle.streams.specs.declared.refusals.ReadRefusal.TheVariants.{Ended}
 use Rattle.streams.specs.Sources.{Handed, Served, Cut}
 

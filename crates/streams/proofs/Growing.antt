@@ -1,10 +1,10 @@
 -- Sinks that grow and are patched.
-use Rattle.std.proofs.Common.{◌≡◌, ℕ, ◌+◌, ◌-◌, ◌*◌, ◌<◌, ◌≤◌, min, List, [], ◌∷◌, ◌++◌, map, length, get_or, take, drop, sym, refl, ap, ◌∙◌, add-zero, mul-zero, mul-add, arith}
+use Rattle.std.proofs.Common.{◌≡◌, ℕ, ◌+◌, ◌-◌, ◌*◌, ◌<◌, ◌≤◌, List, [], ◌∷◌, ◌++◌, length, get_or, take, drop, sym, refl, ap, ◌∙◌, mul-zero, mul-add, arith}
 use Rattle.std.specs.List.{flat_map}
-use Rattle.std.proofs.lemmas.List.{take_all, take_more, append_assoc, append-nil, length-append, length-take, length-take-le, length-map, drop-drop}
+use Rattle.std.proofs.lemmas.List.{take_all, take_more, append_assoc, append-nil, length-append, length-take-le, length-map, drop-drop}
 use Rattle.streams.specs.declared.refusals.PutRefusal.{PutRefusal}
 use Rattle.streams.specs.Refusals.{put_number}
-use Rattle.streams.specs.Memories.{overwritten, Memory, Layer, Spelling, spelt, spelt_byte, appended, mended, appended_below, mended_below}
+use Rattle.streams.specs.Memories.{Memory, Layer, Spelling, spelt, spelt_byte, appended, mended, appended_below, mended_below}
 use Rattle.streams.specs.Sinks.{Store, grown, patched}
 use Rattle.streams.proofs.Rewrites.{overwritten_none, overwritten_twice}
 

@@ -1,7 +1,7 @@
 -- Lists that are overwritten from a place on.
-use Rattle.std.proofs.Common.{◌≡◌, ℕ, ◌+◌, ◌-◌, ◌<◌, ◌≤◌, min, List, [], ◌∷◌, ◌++◌, length, get_or, take, drop, set, sym, refl, ap, ◌∙◌, add-zero, add_assoc, arith, rules}
+use Rattle.std.proofs.Common.{◌≡◌, ℕ, ◌+◌, ◌-◌, ◌<◌, ◌≤◌, min, List, [], ◌∷◌, ◌++◌, length, get_or, take, drop, set, sym, ap, ◌∙◌, add-zero, add_assoc, arith, rules}
 use borrow.Rule.Slice.PartMut.{put_mid, post_of, Post-is}
-use Rattle.std.proofs.lemmas.List.{take-append-drop, take_all, take_more, drop_more, drop-drop, set_at, append_assoc, length-take, length-take-le, length-append, length-drop, length_push, take_at, drop_at, places, same_lists}
+use Rattle.std.proofs.lemmas.List.{take-append-drop, take_all, take_more, drop_more, set_at, append_assoc, length-take, length-take-le, length-append, length-drop, length_push, take_at, drop_at, places, same_lists}
 use Rattle.streams.specs.Memories.{overwritten}
 
 pub overwritten_none : (xs : List ℕ) (p : ℕ) → xs ≡ overwritten xs p []

@@ -1,5 +1,5 @@
 -- Worked examples of the format, which the definitions meet by computation.
-use Rattle.std.specs.Prelude.{◌≡◌, [], ◌∷◌, ℕ}
+use Rattle.std.specs.Prelude.{◌≡◌, [], ◌∷◌}
 use Rattle.ttlv.specs.Numbers.{be, of_be, padding}
 use Rattle.ttlv.specs.Types.{told, known, unsupported, invalid}
 

@@ -1,9 +1,9 @@
 -- Lines, one after another.
-use Rattle.std.proofs.Common.{◌≡◌, ℕ, zero, suc, ◌+◌, ◌-◌, ◌<◌, ◌≤◌, Bool, true, false, cond, eqb, List, [], ◌∷◌, ◌++◌, length, get_or, take, drop, sym, refl, ap, ◌∙◌, subst, arith}
+use Rattle.std.proofs.Common.{◌≡◌, ℕ, zero, suc, ◌+◌, ◌<◌, ◌≤◌, Bool, true, false, cond, eqb, List, [], ◌∷◌, ◌++◌, length, get_or, take, drop, sym, refl, ap, ◌∙◌, arith}
 use Rattle.std.specs.List.{flat_map}
 use Rattle.std.proofs.lemmas.List.{take_more, drop_more, drop_all, take_all, append_assoc, append-nil}
 use Rattle.std.proofs.lemmas.Bool.{eq-eqb, ne_eqb, eqb-true, eqb-false, cond-true, cond-false}
-use Rattle.ttlvdiag.specs.Lines.{led_by, lines, first_line, after_line, ended, closed, Unbroken, CutAtLf, CutsAtLf}
+use Rattle.ttlvdiag.specs.Lines.{led_by, lines, first_line, after_line, ended, closed, Unbroken, CutsAtLf}
 
 -- The first line is the characters passed so far, then the first line of what is left.
 abbrev pub Passed : List ℕ → ℕ → Type 0

@@ -1,5 +1,5 @@
 -- What the program prints for what it reads.
-use Rattle.std.specs.Prelude.{ℕ, cond, List, [], ◌∷◌, ◌++◌, length, codes, nat_lt}
+use Rattle.std.specs.Prelude.{ℕ, cond, List, length, codes, nat_lt}
 use Rattle.std.specs.List.{flat_map}
 use Rattle.hexadecimal.specs.Digits.{hexed}
 use Rattle.hexadecimal.specs.Pairs.{spelled}

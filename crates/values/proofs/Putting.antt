@@ -1,15 +1,13 @@
 -- Values put into sinks.
-use Rattle.std.proofs.Common.{◌≡◌, ℕ, ◌+◌, ◌-◌, ◌*◌, ◌/◌, ◌%◌, ◌<◌, ◌≤◌, Bool, true, false, cond, ◌&&◌, eqb, ltb, ◌⊎◌, List, [], ◌∷◌, ◌++◌, length, take, replicate, Ok, Err, Result, sym, refl, ap, ◌∙◌, subst, inl, inr, arith}
-use lib.Utf8.{scalar, scalars, encode, encodes, scalar_cases}
+use Rattle.std.proofs.Common.{◌≡◌, ℕ, ◌+◌, ◌-◌, ◌%◌, ◌<◌, ◌≤◌, List, ◌++◌, length, take, replicate, Ok, Err, Result, sym, ap, ◌∙◌, arith}
 use Rattle.std.proofs.lemmas.List.{length-append, length-replicate, append_assoc, take-replicate, take_at}
-use Rattle.std.proofs.lemmas.Bool.{and_parts, lt-ltb, le-ltb, cond-true, cond-false}
+use Rattle.std.proofs.lemmas.Bool.{lt-ltb, le-ltb, cond-true, cond-false}
 use Rattle.std.proofs.lemmas.Bool.Decides.{nat_tests}
 use Rattle.streams.specs.declared.refusals.PutRefusal.{PutRefusal}
 use Rattle.streams.specs.Sinks.{Store, grown, Puts}
 use Rattle.streams.proofs.Growing.{grown_twice}
 use Rattle.ttlv.specs.Numbers.{be, padding}
-use Rattle.ttlv.specs.Utf8.{Scalar, written, Text, no_more, one_more}
-use Rattle.ttlv.specs.Kinds.{value_item, extended, sign_byte, Legal}
+use Rattle.ttlv.specs.Kinds.{value_item}
 use Rattle.values.specs.Writing.{Written}
 
 -- Padding is short, and reaches a multiple of eight.

@@ -1,6 +1,6 @@
 ghost use Rattle.std.specs.Prelude.{◌≡◌};
 ghost use Rattle.ttlv.specs.Kinds.{extended, sign_byte};
-ghost use Rattle.fields.specs.declared.ttlv_type.TtlvType.TheVariants.{BigInteger as bigInteger};
+ghost use Rattle.fields.specs.declared.ttlv_type.TtlvType.TheVariants.{BigInteger as big_integer_type};
 
 use crate::padding::padding_of;
 use crate::value::SerializableTtlvType;
@@ -23,7 +23,7 @@ fn sign_of(bytes: &[u8]) -> u8
 }
 
 impl SerializableTtlvType for TtlvBigInteger<'_> {
-    ghost kind = { λ _. bigInteger };
+    ghost kind = { λ _. big_integer_type };
 
     ghost value = { λ v. extended v.0.now };
 

@@ -1,5 +1,5 @@
 ghost use Rattle.values.specs.Legal.{Makes};
-ghost use Rattle.fields.specs.declared.ttlv_type.TtlvType.TheVariants.{TextString as textString, ByteString as byteString};
+ghost use Rattle.fields.specs.declared.ttlv_type.TtlvType.TheVariants.{TextString as text_string_type, ByteString as byte_string_type};
 
 use crate::legal::check_value;
 use crate::refusals::ValueRefusal;
@@ -19,7 +19,7 @@ pub struct TtlvTextString<'a>(pub &'a str);
 impl<'a> TtlvTextString<'a> {
     /// Makes a text of its bytes.
     pub fn from_bytes(bytes: &'a [u8]) -> Result<TtlvTextString<'a>, ValueRefusal>
-        ensures { Makes (λ v. v.0.now) textString bytes.now result }
+        ensures { Makes (λ v. v.0.now) text_string_type bytes.now result }
     {
         check_value(TtlvType::TextString, bytes)?;
         // the decision was made above
@@ -28,7 +28,7 @@ impl<'a> TtlvTextString<'a> {
 }
 
 impl SerializableTtlvType for TtlvByteString<'_> {
-    ghost kind = { λ _. byteString };
+    ghost kind = { λ _. byte_string_type };
 
     ghost value = { λ v. v.0.now };
 
@@ -46,7 +46,7 @@ impl SerializableTtlvType for TtlvByteString<'_> {
 }
 
 impl SerializableTtlvType for TtlvTextString<'_> {
-    ghost kind = { λ _. textString };
+    ghost kind = { λ _. text_string_type };
 
     ghost value = { λ v. v.0.now };
 

@@ -1,9 +1,8 @@
 -- Worked examples of the format, which the definitions meet by computation.
-use Rattle.std.specs.Prelude.{◌≡◌, ℕ, true, List, [], ◌∷◌, ◌++◌, pos, Some, None, Ok, Err, codes, Result}
+use Rattle.std.specs.Prelude.{◌≡◌, ℕ, true, List, [], ◌∷◌, ◌++◌, pos, Ok, Err, codes, Result}
 use Rattle.std.specs.Int.{w32, w64}
 use Rattle.std.proofs.Common.{of_z}
 use Rattle.ttlv.specs.Numbers.{be, of_be, padding}
-use Rattle.ttlv.specs.Types.{told, known, unsupported, invalid}
 use Rattle.ttlv.specs.Kinds.{extended, truth_bytes, value_item}
 use Rattle.fields.specs.declared.ttlv_type.TtlvType.{TtlvType}
 use Rattle.fields.specs.declared.ttlv_type.TtlvType.TheVariants.{Integer, LongInteger, BigInteger, Enumeration, Boolean, TextString, ByteString, DateTime}
@@ -12,11 +11,10 @@ use Rattle.values.specs.declared.refusals.ValueRefusal.TheVariants.{InvalidTtlvV
 use Rattle.values.specs.Legal.{bytes_judged}
 use Rattle.reading.specs.Refusals.{fault_number}
 use Rattle.reading.specs.declared.refusals.ValueFault.{ValueFault}
-use Rattle.reading.specs.Stages.{Stage, whole, bad_value, wrong_length, into_scratch, told_length, told_value, answered}
+use Rattle.reading.specs.Stages.{into_scratch, told_length, answered}
 use Rattle.reading.specs.Reads.{printed}
 use Rattle.faults.specs.declared.fault.Fault.{Fault}
 use Rattle.faults.specs.Faults.{item_number}
-use Rattle.items.specs.declared.item.Item.{Item}
 use Rattle.items.specs.declared.item.Item.TheVariants as item
 use Rattle.items.specs.Items.{item_read, header_read}
 

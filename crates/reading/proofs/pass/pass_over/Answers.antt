@@ -1,4 +1,4 @@
-use Rattle.std.proofs.Common.{◌-◌, ◌≤◌, length, take, replicate, arith}
+use Rattle.std.proofs.Common.{◌-◌, take, replicate, arith}
 use Rattle.std.proofs.lemmas.List.{length-take, length-replicate}
 use Rattle.reading.proofs.Passing.{passing_none, passing_more, passing_all, passing_ended}
 use Rattle.reading.proofs.pass.pass_over.Goals as goal

@@ -1,4 +1,4 @@
-use Rattle.std.proofs.Common.{drop, sym, ap, ◌∙◌, subst}
+use Rattle.std.proofs.Common.{drop, sym, subst}
 use Rattle.std.proofs.lemmas.Result.{err_from_is_err_and}
 use Rattle.ttlv.specs.Kinds.{value_item, Legal}
 use Rattle.ttlv.proofs.Twos.{extension_keeps_the_number}

@@ -1,4 +1,4 @@
-use Rattle.std.proofs.Common.{◌≡◌, ◌<◌, ◌++◌, length, drop, vec_items, sym, refl, ap, ◌∙◌, arith}
+use Rattle.std.proofs.Common.{◌++◌, drop, vec_items, sym, refl, ap, ◌∙◌, arith}
 use Rattle.hexadecimal.specs.Digits.{hexed}
 use Rattle.hexadecimal.specs.Pairs.{spelled}
 use Rattle.hexadecimal.specs.Layers.{hex_ahead}

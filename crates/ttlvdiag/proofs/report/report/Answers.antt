@@ -1,8 +1,8 @@
-use Rattle.std.proofs.Common.{◌≡◌, ◌<◌, [], ◌∷◌, ◌++◌, length, vec_items, sym, refl, ap, ◌∙◌, subst, arith}
+use Rattle.std.proofs.Common.{◌≡◌, ◌<◌, [], ◌∷◌, ◌++◌, length, vec_items, sym, ap, ◌∙◌, subst, arith}
 use Rattle.std.specs.List.{flat_map}
 use Rattle.std.proofs.lemmas.Result.{IfOk-weaker, IfOk-from_err}
 use Rattle.std.proofs.lemmas.Bool.{eqb-true, eqb-false}
-use Rattle.ttlvdiag.specs.Lines.{lines, after_line}
+use Rattle.ttlvdiag.specs.Lines.{lines}
 use Rattle.ttlvdiag.specs.Reports.{line_text, report_text}
 use Rattle.ttlvdiag.proofs.Cutting.{cuts_at_lf, after_falls}
 use Rattle.ttlvdiag.proofs.Shown.{line_more, lines_shown, report_within, report_beyond}

@@ -1,7 +1,6 @@
-use Rattle.std.proofs.Common.{◌≡◌, cond, Ok, Err, sym, ap, ◌∙◌}
+use Rattle.std.proofs.Common.{◌≡◌, Err, sym, ap, ◌∙◌}
 use Rattle.std.proofs.lemmas.Result.{err_from_is_err_and}
 use Rattle.fields.specs.Types.{type_byte}
-use Rattle.values.specs.declared.refusals.ValueRefusal.TheVariants.{InvalidTtlvValue}
 use Rattle.values.specs.Legal.{good}
 use Rattle.values.proofs.Judging.{decides_good, fits_from, judged_length, judged_by, good_truth, good_text, good_rest}
 use Rattle.values.proofs.legal.check_value.Goals as goal

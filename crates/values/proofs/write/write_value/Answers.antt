@@ -1,4 +1,4 @@
-use Rattle.std.proofs.Common.{◌≡◌, length, ap, ◌∙◌, arith}
+use Rattle.std.proofs.Common.{length, ap, ◌∙◌, arith}
 use Rattle.ttlv.specs.Numbers.{be, padding}
 use Rattle.ttlv.specs.Kinds.{value_item}
 use Rattle.values.proofs.Putting.{too_long, no_room, all_written, three_puts, length_value_item, fronts}

@@ -1,4 +1,4 @@
-use Rattle.std.proofs.Common.{◌≡◌, ◌+◌, ◌*◌, length, get_or, refl, ap, ◌∙◌, arith}
+use Rattle.std.proofs.Common.{◌+◌, ◌*◌, get_or, refl, ap, ◌∙◌, arith}
 use Rattle.hexadecimal.specs.Digits.{nibble_or_0}
 use Rattle.hexadecimal.proofs.Layered.{length_paired, paired_at}
 use Rattle.hexadecimal.proofs.hex_sink.HexSinkSink.byte_at.Goals as goal

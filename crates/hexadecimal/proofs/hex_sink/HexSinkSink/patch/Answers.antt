@@ -1,4 +1,4 @@
-use Rattle.std.proofs.Common.{◌+◌, ◌/◌, length, get_or, sym, refl, arith}
+use Rattle.std.proofs.Common.{◌+◌, ◌/◌, length, sym, refl, arith}
 use mir.Facts.{Fits-lt-pow}
 use Rattle.std.proofs.lemmas.Bool.{ltb-true, ltb-false}
 use Rattle.streams.proofs.Growing.{patched_none}

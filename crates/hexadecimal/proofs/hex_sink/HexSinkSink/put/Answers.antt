@@ -1,4 +1,4 @@
-use Rattle.std.proofs.Common.{length, get_or, arith}
+use Rattle.std.proofs.Common.{get_or, arith}
 use mir.Facts.{Fits-lt-pow}
 use Rattle.hexadecimal.specs.Layers.{hex_store}
 use Rattle.streams.proofs.Growing.{grown_none, grown_more, grown_all}

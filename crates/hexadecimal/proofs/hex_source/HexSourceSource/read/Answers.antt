@@ -1,4 +1,4 @@
-use Rattle.std.proofs.Common.{◌≡◌, ◌+◌, ◌-◌, length, sym, refl, ap, ◌∙◌, arith}
+use Rattle.std.proofs.Common.{◌≡◌, ◌+◌, ◌-◌, length, ap, ◌∙◌, arith}
 use Rattle.streams.proofs.Going.{going_none, going_push, going_over, going_full, most_over, most_full}
 use Rattle.hexadecimal.specs.Layers.{hex_ahead, hex_asked}
 use Rattle.hexadecimal.proofs.Spelled.{asked_none, asked_then, asked_ended, ahead_ended}

@@ -1,5 +1,4 @@
 use Rattle.std.proofs.Common.{◌+◌, length, sym, refl, arith}
-use Rattle.std.proofs.lemmas.List.{length-take}
 use Rattle.std.proofs.lemmas.Bool.{ltb-true, ltb-false}
 use Rattle.streams.proofs.Fronts.{buffer_patch}
 use Rattle.streams.proofs.buffer_sink.BufferSinkSink.patch.Goals as goal

@@ -1,4 +1,4 @@
-use Rattle.std.proofs.Common.{◌≡◌, codes, refl, subst}
+use Rattle.std.proofs.Common.{◌≡◌, refl, subst}
 use Rattle.std.specs.Fmt.{HasWritten}
 use Rattle.streams.specs.declared.refusals.PlaceRefusal.{PlaceRefusal}
 use Rattle.streams.specs.declared.refusals.PlaceRefusal.TheVariants.{OutOfRange}

@@ -1,4 +1,4 @@
-use Rattle.std.proofs.Common.{◌≡◌, ◌≤◌, length, take, vec_items, vec_len, vec_capacity}
+use Rattle.std.proofs.Common.{◌≡◌, take, vec_items, vec_len}
 use Rattle.streams.specs.Memories.{overwritten}
 use Rattle.streams.proofs.vec_sink.VecSinkSink.patch.Given as goal
 
