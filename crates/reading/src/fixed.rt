@@ -6,12 +6,13 @@ use crate::read::read_value;
 use crate::refusals::ValueFault;
 use streams::source::Source;
 use values::fixed::FixedLengthTtlvType;
+use values::spelt::SpeltTtlvType;
 
 /// Reads a value of fixed length.
-pub fn read_fixed<V: FixedLengthTtlvType, R: Source>(src: &mut R) -> Result<V, ValueFault>
-    ensures { Stops (without_scratch (type_byte V.FixedLengthTtlvType.typed) (R.ahead src.old)) (V.FixedLengthTtlvType.spelt (told_value (R.ahead src.old))) V.FixedLengthTtlvType.typed (R.ahead src.old) (R.ahead src.new) result }
+pub fn read_fixed<V: SpeltTtlvType, R: Source>(src: &mut R) -> Result<V, ValueFault>
+    ensures { Stops (without_scratch (type_byte V.SpeltTtlvType.typed) (R.ahead src.old)) (V.SpeltTtlvType.spelt (told_value (R.ahead src.old))) V.SpeltTtlvType.typed (R.ahead src.old) (R.ahead src.new) result }
 {
     let mut eight = [0u8; 8];
     read_value(src, V::fixed_type(), &mut eight)?;
-    Ok(V::from_eight(eight))
+    Ok(V::from_spelt(eight))
 }

@@ -9,8 +9,8 @@ use crate::read::read_value;
 use crate::refusals::ValueFault;
 use streams::sink::Sink;
 use streams::sink_source::SinkSource;
-use values::fixed::{FixedLengthTtlvType, write_fixed};
 use values::refusals::WriteRefusal;
+use values::spelt::{SpeltTtlvType, write_fixed};
 use values::value::SerializableTtlvType;
 use values::write::write_value;
 
@@ -68,7 +68,7 @@ pub fn write_and_read_back<V: SerializableTtlvType, S: Sink>(
 }
 
 /// Writes a value of fixed length to a sink, and reads it back from there: it is that value.
-pub fn write_and_read_fixed<V: FixedLengthTtlvType, S: Sink>(
+pub fn write_and_read_fixed<V: SpeltTtlvType, S: Sink>(
     v: &V,
     dst: &mut S,
 ) -> Result<V, RoundTripFault>

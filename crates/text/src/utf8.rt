@@ -74,11 +74,11 @@ impl Utf8 {
     pub fn run(self, bytes: &[u8]) -> Utf8
         ensures { result ≡ ran self bytes.now }
     {
-        let mut seen = self;
+        let mut after = self;
         for b in bytes {
-            seen = seen.step(*b);
+            after = after.step(*b);
         }
-        seen
+        after
     }
 
     /// Whether all characters seen are whole.
@@ -97,5 +97,9 @@ pub fn is_text(bytes: &[u8]) -> bool
     ensures answer { result ≡ textual bytes.now }
     ensures text { Decides result (Text bytes.now) }
 {
-    Utf8::Start.run(bytes).is_whole()
+    let mut seen = Utf8::Start;
+    for b in bytes {
+        seen = seen.step(*b);
+    }
+    seen.is_whole()
 }

@@ -1,9 +1,8 @@
+ghost use Rattle.std.specs.Prelude.{◌≡◌};
 ghost use Rattle.std.specs.Int.{w64};
-ghost use Rattle.std.proofs.Common.{of_z, to_z, rules};
-ghost use Rattle.ttlv.specs.Numbers.{be, of_be};
+ghost use Rattle.std.proofs.Common.{of_z, rules};
+ghost use Rattle.ttlv.specs.Numbers.{be};
 ghost use Rattle.fields.specs.declared.ttlv_type.TtlvType.TheVariants.{DateTime as the_type_of};
-ghost use Rattle.std.proofs.Math.Path.{refl};
-ghost use Rattle.values.specs.Legal.{good};
 
 use crate::fixed::FixedLengthTtlvType;
 use crate::value::SerializableTtlvType;
@@ -34,25 +33,11 @@ impl SerializableTtlvType for TtlvDateTime {
 }
 
 impl FixedLengthTtlvType for TtlvDateTime {
-    ghost typed = { the_type_of };
-
     ghost fixed = { 8 };
-
-    ghost spelt = { λ bytes. record { 0 = to_z w64 (of_be bytes) } };
 
     ghost short = { Prim.search rules };
 
     ghost long = { Prim.search rules };
-
-    ghost some = { Prim.search rules };
-
-    ghost only = { Prim.search rules };
-
-    ghost all = { unfold good in λ bytes. refl };
-
-    fn fixed_type() -> TtlvType {
-        TtlvType::DateTime
-    }
 
     fn fixed_len() -> u32 {
         8

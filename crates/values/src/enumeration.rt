@@ -1,7 +1,6 @@
-ghost use Rattle.ttlv.specs.Numbers.{be, of_be};
+ghost use Rattle.std.specs.Prelude.{◌≡◌};
+ghost use Rattle.ttlv.specs.Numbers.{be};
 ghost use Rattle.fields.specs.declared.ttlv_type.TtlvType.TheVariants.{Enumeration as the_type_of};
-ghost use Rattle.std.proofs.Math.Path.{refl};
-ghost use Rattle.values.specs.Legal.{good};
 ghost use Rattle.std.proofs.Common.{rules};
 
 use crate::fixed::FixedLengthTtlvType;
@@ -33,25 +32,11 @@ impl SerializableTtlvType for TtlvEnumeration {
 }
 
 impl FixedLengthTtlvType for TtlvEnumeration {
-    ghost typed = { the_type_of };
-
     ghost fixed = { 4 };
-
-    ghost spelt = { λ bytes. record { 0 = of_be bytes } };
 
     ghost short = { Prim.search rules };
 
     ghost long = { Prim.search rules };
-
-    ghost some = { Prim.search rules };
-
-    ghost only = { Prim.search rules };
-
-    ghost all = { unfold good in λ bytes. refl };
-
-    fn fixed_type() -> TtlvType {
-        TtlvType::Enumeration
-    }
 
     fn fixed_len() -> u32 {
         4

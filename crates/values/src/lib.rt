@@ -10,6 +10,7 @@ pub mod legal;
 pub mod long_integer;
 pub mod padding;
 pub mod refusals;
+pub mod spelt;
 pub mod strings;
 #[cfg(test)]
 mod tests;

@@ -7,7 +7,9 @@ pub returns-in_err-read : goal.returns-in_err-read
 returns-in_err-read g c =
     let store = g.S.Sink.store in
     let fixed = g.V.FixedLengthTtlvType in
+    let spelt = g.V.SpeltTtlvType in
     let met = g.met.V.FixedLengthTtlvType in
+    let laws = g.met.V.SpeltTtlvType in
     let v = c.args.v.now in
     let bytes = g.V.SerializableTtlvType.value v in
     let old = store c.args.dst.now in
@@ -16,13 +18,15 @@ returns-in_err-read g c =
     let w = c.in_ok-write_fixed.ensures in
     let p = put_whole bytes old new w.writes in
     let a = item_ahead old new ahead (value_item bytes) c.count-at.result c.count-at.ensures p.after c.new.ensures in
-    absurd (never v c.in_err-read.field-0.0 (fixed_back fixed.spelt v fixed.typed bytes ahead _ fixed.fixed _ met.only met.all (met.long v) (put_short bytes old new p) w.back a c.in_err-read.ensures))
+    absurd (never v c.in_err-read.field-0.0 (fixed_back spelt.spelt v spelt.typed bytes ahead _ fixed.fixed _ laws.only laws.all (met.long v) (put_short bytes old new p) w.back a c.in_err-read.ensures))
 
 pub returns : goal.returns
 returns g c =
     let store = g.S.Sink.store in
     let fixed = g.V.FixedLengthTtlvType in
+    let spelt = g.V.SpeltTtlvType in
     let met = g.met.V.FixedLengthTtlvType in
+    let laws = g.met.V.SpeltTtlvType in
     let v = c.args.v.now in
     let bytes = g.V.SerializableTtlvType.value v in
     let old = store c.args.dst.now in
@@ -32,4 +36,4 @@ returns g c =
     let p = put_whole bytes old new w.writes in
     let a = item_ahead old new ahead (value_item bytes) c.count-at.result c.count-at.ensures p.after c.new.ensures in
     fixed_done v c.in_ok-read.read bytes old new p
-    (fixed_back fixed.spelt v fixed.typed bytes ahead _ fixed.fixed _ met.only met.all (met.long v) (put_short bytes old new p) w.back a c.in_ok-read.ensures)
+    (fixed_back spelt.spelt v spelt.typed bytes ahead _ fixed.fixed _ laws.only laws.all (met.long v) (put_short bytes old new p) w.back a c.in_ok-read.ensures)
