@@ -9,7 +9,7 @@ use Rattle.fields.specs.declared.ttlv_type.TtlvType.TheVariants as type
 use Rattle.fields.specs.declared.refusals.TypeRefusal.{TypeRefusal}
 use Rattle.fields.specs.Types.{type_byte, type_of_byte}
 use Rattle.reading.specs.declared.refusals.ValueFault.{ValueFault}
-use Rattle.reading.specs.declared.refusals.ValueFault.TheVariants.{Source as ended-in}
+use Rattle.reading.specs.declared.refusals.ValueFault.TheVariants.{Source as ended_in}
 use Rattle.reading.specs.Stages.{told_length, told_value, without_scratch, taken, answered}
 use Rattle.reading.specs.Reads.{printed}
 use Rattle.faults.specs.declared.item_fault.ItemFault.{ItemFault}
@@ -65,7 +65,7 @@ ReadsHeadersBack = (at : ByteOffset) (tag : ℕ) (kind : TtlvType) (rest : List 
 
 -- What follows a header: of a structure its length, of any other type its value.
 abbrev pub as_structure : TtlvTag → List ℕ → Result Item ItemFault
-as_structure tag rest = cond (nat_lt (length rest) 4) (Err (Value (ended-in (Ended (length rest))))) (Ok (item.Structure tag (told_length rest)))
+as_structure tag rest = cond (nat_lt (length rest) 4) (Err (Value (ended_in (Ended (length rest))))) (Ok (item.Structure tag (told_length rest)))
 
 abbrev pub as_value : TtlvTag → TtlvType → Result (Option ℕ) ValueFault → Result Item ItemFault
 as_value tag kind (Ok shown) = Ok (item.Value tag kind shown)
