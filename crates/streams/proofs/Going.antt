@@ -1,5 +1,5 @@
 -- Reads that repeat.
-use Rattle.std.proofs.Common.{◌≡◌, ℕ, ◌+◌, ◌-◌, ◌<◌, ◌≤◌, min, List, [], ◌∷◌, ◌++◌, length, get_or, take, drop, set, sym, refl, ap, ◌∙◌, subst, arith}
+use Rattle.std.proofs.Common.{◌≡◌, ℕ, ◌+◌, ◌-◌, ◌<◌, ◌≤◌, min, List, [], ◌∷◌, ◌++◌, length, get_or, take, drop, set, sym, refl, ap, ◌∙◌, subst, add_assoc, arith}
 use borrow.Rule.Slice.PartMut.{put_mid}
 use Rattle.std.proofs.lemmas.List.{drop-drop, drop-take, drop_all, drop_at, drop_more, take_at, take-take, take_rest, take_all, take_more, take-append-drop, append_assoc, append-nil, set_at, length-take-le, length-drop}
 use Rattle.streams.specs.declared.refusals.ReadRefusal.TheVariants.{Ended}
@@ -117,7 +117,9 @@ pub most_full : (old new buf buf' : List ℕ) (done : ℕ) → Going old new buf
 most_full old new buf buf' done g h = omega (arith, g.within, g.had)
 
 -- One byte more, of those held from a place on.
-pub going_look : (held buf buf' : List ℕ) (from at done b : ℕ) → Going (drop from held) (drop at held) buf buf' done → at < length held → b ≡ get_or held at 0 → done < length buf
-    → Going (drop from held) (drop (at + 1) held) buf (set buf' done b) (done + 1)
-going_look held buf buf' from at done b g l e h =
-    going_push (drop from held) (drop at held) (drop (at + 1) held) buf buf' done b g (drop_more held at 0 l ∙ ap (λ x. x ∷ drop (at + 1) held) (sym e)) h
+pub going_look : (held buf buf' : List ℕ) (from i b : ℕ) → Going (drop from held) (drop (from + i) held) buf buf' i → from + i < length held
+    → b ≡ get_or held (from + i) 0 → i < length buf → Going (drop from held) (drop (from + (i + 1)) held) buf (set buf' i b) (i + 1)
+going_look held buf buf' from i b g l e h =
+    rw (← add_assoc)
+    (going_push (drop from held) (drop (from + i) held) (drop (from + i + 1) held) buf buf' i b g
+    (drop_more held (from + i) 0 l ∙ ap (λ x. x ∷ drop (from + i + 1) held) (sym e)) h)

@@ -1,5 +1,3 @@
 pub mod Rewrites
 pub mod Going
 pub mod Growing
-mod Fronts
-mod Owned

@@ -3,7 +3,7 @@ use Rattle.std.specs.Prelude.{◌≡◌, ℕ, ◌+◌, ◌-◌, ◌<◌, ◌≤�
 use Rattle.streams.specs.declared.refusals.PutRefusal.{PutRefusal}
 use Rattle.streams.specs.declared.refusals.PlaceRefusal.{PlaceRefusal}
 use Rattle.streams.specs.Refusals.{put_number, place_number}
-use Rattle.streams.specs.Memories.{Memory, Layer, appended, mended, appended_below, mended_below}
+use Rattle.streams.specs.Memories.{Memory, Layer, overwritten, appended, mended, appended_below, mended_below}
 
 -- What a sink is: its memory; the sinks below it, where it is a layer; and the names of what it borrows, which stay as they are,
 -- so that a lender knows its own memory afterwards.
@@ -29,6 +29,11 @@ Puts old new bytes (Err e) = (old.memory.room < length bytes) × (new ≡ old) �
 abbrev pub Patches : {X : Type 0} → Store → Store → ℕ → List ℕ → Result X PlaceRefusal → Type 0
 Patches old new p bytes (Ok _) = (p + length bytes ≤ length old.memory.held) × (new ≡ patched old p bytes)
 Patches old new p bytes (Err e) = (length old.memory.held < p + length bytes) × (new ≡ old) × (place_number e ≡ 23)
+
+-- Bytes overwritten where they stand: refused with 23 exactly if that would leave them, and then nothing changes.
+abbrev pub Overwrites : {X : Type 0} → List ℕ → List ℕ → ℕ → List ℕ → Result X PlaceRefusal → Type 0
+Overwrites old new p bytes (Ok _) = (p + length bytes ≤ length old) × (new ≡ overwritten old p bytes)
+Overwrites old new p bytes (Err e) = (length old < p + length bytes) × (new ≡ old) × (place_number e ≡ 23)
 
 -- One look: refused with 23 exactly if the place is not below the count.
 abbrev pub Looks : Store → ℕ → Result ℕ PlaceRefusal → Type 0

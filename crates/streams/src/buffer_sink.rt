@@ -1,14 +1,15 @@
-ghost use Rattle.std.specs.Prelude.{◌≡◌, min, length, take};
+ghost use Rattle.std.specs.Prelude.{◌≡◌, ◌≤◌, length, take};
 ghost use Rattle.streams.specs.Sinks.{buffer_store};
 
 use crate::refusals::{PlaceRefusal, PutRefusal};
-use crate::sink::{Sink, reaches_past};
+use crate::sink::{Sink, overwrite};
 
-/// The caller's buffer, filled from its front; a `len` past its end stands for its end.
+/// The caller's buffer, filled from its front.
 #[derive(Drop)]
 pub struct BufferSink<'a> {
     buf: &'a mut [u8],
     len: usize,
+    ghost within: { len ≤ length buf.now },
 }
 
 impl<'a> BufferSink<'a> {
@@ -25,8 +26,7 @@ impl<'a> BufferSink<'a> {
     pub fn bytes(&self) -> &[u8]
         ensures { result.now ≡ take self.now.len self.now.buf.now }
     {
-        let count = self.count();
-        &self.buf[0..count]
+        &self.buf[..self.len]
     }
 }
 
@@ -34,40 +34,28 @@ impl Sink for BufferSink<'_> {
     ghost store = { λ s. buffer_store s.buf.now s.len s.buf.ghost_name };
 
     fn put(&mut self, bytes: &[u8]) -> Result<(), PutRefusal> {
-        let at = self.count();
-        if bytes.len() > self.buf.len() - at {
+        if bytes.len() > self.room() {
             return Err(PutRefusal::NoRoom);
         }
-        let end = at + bytes.len();
-        self.buf[at..end].copy_from_slice(bytes);
+        let end = self.len + bytes.len();
+        self.buf[self.len..end].copy_from_slice(bytes);
         self.len = end;
         Ok(())
     }
 
     fn patch(&mut self, at: usize, bytes: &[u8]) -> Result<(), PlaceRefusal> {
-        if reaches_past(at, bytes.len(), self.count()) {
-            return Err(PlaceRefusal::OutOfRange);
-        }
-        let end = at + bytes.len();
-        self.buf[at..end].copy_from_slice(bytes);
-        Ok(())
+        overwrite(&mut self.buf[..self.len], at, bytes)
     }
 
     fn byte_at(&self, p: usize) -> Result<u8, PlaceRefusal> {
-        if p >= self.len || p >= self.buf.len() {
-            return Err(PlaceRefusal::OutOfRange);
-        }
-        Ok(self.buf[p])
+        self.bytes().get(p).copied().ok_or(PlaceRefusal::OutOfRange)
     }
 
-    fn count(&self) -> usize
-        ensures held { result ≡ length (take self.now.len self.now.buf.now) }
-        ensures within { result ≡ min self.now.len (length self.now.buf.now) }
-    {
-        self.len.min(self.buf.len())
+    fn count(&self) -> usize {
+        self.bytes().len()
     }
 
     fn room(&self) -> usize {
-        self.buf.len().saturating_sub(self.len)
+        self.buf.len() - self.len
     }
 }

@@ -1,5 +1,5 @@
 ghost use Rattle.std.specs.Prelude.{◌≡◌, ◌+◌, length, nat_lt};
-ghost use Rattle.streams.specs.Sinks.{Store, Puts, Patches, Looks};
+ghost use Rattle.streams.specs.Sinks.{Store, Puts, Patches, Looks, Overwrites};
 
 use crate::refusals::{PlaceRefusal, PutRefusal};
 
@@ -34,4 +34,15 @@ pub fn reaches_past(at: usize, len: usize, count: usize) -> bool
     ensures { result ≡ nat_lt count (at + len) }
 {
     at > count || len > count - at
+}
+
+/// Overwrites the bytes of `held` from `at` on, or refuses.
+pub fn overwrite(held: &mut [u8], at: usize, bytes: &[u8]) -> Result<(), PlaceRefusal>
+    ensures { Overwrites held.old held.new at bytes.now result }
+{
+    if reaches_past(at, bytes.len(), held.len()) {
+        return Err(PlaceRefusal::OutOfRange);
+    }
+    held[at..at + bytes.len()].copy_from_slice(bytes);
+    Ok(())
 }

@@ -28,16 +28,15 @@ impl<S: Sink> Source for SinkSource<'_, S> {
         ensures hands { Handed (drop self.old.at (S.Sink.store self.old.sink.now).memory.held) (drop self.new.at (S.Sink.store self.new.sink.now).memory.held) buf.old buf.new result }
         ensures most { result ≡ min (length buf.old) (length (drop self.old.at (S.Sink.store self.old.sink.now).memory.held)) }
     {
-        let end = self.sink.count();
-        let mut done = 0;
-        while done < buf.len() && self.at < end {
-            buf[done] = match self.sink.byte_at(self.at) {
+        let left = self.sink.count().saturating_sub(self.at);
+        let m = left.min(buf.len());
+        for i in 0..m {
+            buf[i] = match self.sink.byte_at(self.at + i) {
                 Ok(b) => b,
                 Err(_) => unreachable(),
             };
-            done += 1;
-            self.at += 1;
         }
-        done
+        self.at += m;
+        m
     }
 }

@@ -1,39 +1,43 @@
-ghost use Rattle.std.specs.Prelude.{◌≡◌, ℕ, min, length, drop};
+ghost use Rattle.std.specs.Prelude.{◌≡◌, ℕ, List, min, length};
 ghost use Rattle.streams.specs.Sources.{Handed};
 
 use crate::source::Source;
+use std::marker::Model;
 
 /// The caller's bytes.
 #[derive(Drop)]
 pub struct SliceSource<'a> {
-    bytes: &'a [u8],
-    at: usize,
+    rest: &'a [u8],
+}
+
+/// It is seen as the bytes still to come.
+impl<'a> Model for SliceSource<'a> {
+    ghost Value = { List ℕ };
+
+    ghost view = { λ s. s.rest.now };
 }
 
 impl<'a> SliceSource<'a> {
     /// A source of all of `bytes`.
     pub fn new(bytes: &'a [u8]) -> SliceSource<'a>
-        ensures { drop result.at result.bytes.now ≡ bytes.now }
+        ensures { result ≡ bytes.now }
     {
-        SliceSource { bytes, at: 0 }
+        SliceSource { rest: bytes }
     }
 }
 
 impl Source for SliceSource<'_> {
-    ghost ahead = { λ s. drop s.at s.bytes.now };
+    ghost ahead = { λ s. s };
 
     /// Hands out as many bytes as fit.
     fn read(&mut self, buf: &mut [u8]) -> usize
-        ensures hands { Handed (drop self.old.at self.old.bytes.now) (drop self.new.at self.new.bytes.now) buf.old buf.new result }
-        ensures most { result ≡ min (length buf.old) (length (drop self.old.at self.old.bytes.now)) }
+        ensures hands { Handed self.old self.new buf.old buf.new result }
+        ensures most { result ≡ min (length buf.old) (length self.old) }
     {
-        if self.at >= self.bytes.len() {
-            return 0;
-        }
-        let left = self.bytes.len() - self.at;
-        let m = left.min(buf.len());
-        buf[0..m].copy_from_slice(&self.bytes[self.at..self.at + m]);
-        self.at += m;
+        let m = self.rest.len().min(buf.len());
+        let (front, rest) = self.rest.split_at(m);
+        buf[..m].copy_from_slice(front);
+        self.rest = rest;
         m
     }
 }

@@ -2,7 +2,7 @@ ghost use Rattle.std.specs.Prelude.{◌≡◌, ◌≤◌, [], IfOk, vec_len, vec
 ghost use Rattle.streams.specs.Sinks.{owned_store};
 
 use crate::refusals::{PlaceRefusal, PutRefusal};
-use crate::sink::{Sink, reaches_past};
+use crate::sink::{Sink, overwrite};
 use std::alloc::{AllocError, Global};
 
 /// An owned buffer whose memory is reserved when it is made, so that no put fails for want of memory.
@@ -45,28 +45,18 @@ impl Sink for VecSink {
         if bytes.len() > self.room() {
             return Err(PutRefusal::NoRoom);
         }
-        match self.bytes.extend_from_slice(bytes) {
-            Ok(()) => Ok(()),
-            // cannot come: the memory is reserved
-            Err(_) => Err(PutRefusal::NoRoom),
-        }
+        // no memory is wanted: it is reserved
+        self.bytes
+            .extend_from_slice(bytes)
+            .map_err(|_| PutRefusal::NoRoom)
     }
 
     fn patch(&mut self, at: usize, bytes: &[u8]) -> Result<(), PlaceRefusal> {
-        if reaches_past(at, bytes.len(), self.count()) {
-            return Err(PlaceRefusal::OutOfRange);
-        }
-        for (i, b) in bytes.iter().enumerate() {
-            self.bytes[at + i] = *b;
-        }
-        Ok(())
+        overwrite(self.bytes.as_mut_slice(), at, bytes)
     }
 
     fn byte_at(&self, p: usize) -> Result<u8, PlaceRefusal> {
-        if p >= self.count() {
-            return Err(PlaceRefusal::OutOfRange);
-        }
-        Ok(self.bytes[p])
+        self.bytes.get(p).copied().ok_or(PlaceRefusal::OutOfRange)
     }
 
     fn count(&self) -> usize {
