@@ -9,15 +9,15 @@ use std::test::Fail;
 
 #[test]
 fn type_bytes_are_types_or_refused(rt: HostRuntime) {
-    assert_eq!(rt; TtlvType::from_byte(0x01), Ok(TtlvType::Structure));
-    assert_eq!(rt; TtlvType::from_byte(0x09), Ok(TtlvType::DateTime));
+    assert_eq!(rt; TtlvType::try_from(0x01), Ok(TtlvType::Structure));
+    assert_eq!(rt; TtlvType::try_from(0x09), Ok(TtlvType::DateTime));
     assert_eq!(rt;
-        TtlvType::from_byte(0x0A),
+        TtlvType::try_from(0x0A),
         Err(TypeRefusal::Unsupported(0x0A))
     );
-    assert_eq!(rt; TtlvType::from_byte(0x00), Err(TypeRefusal::Invalid(0x00)));
-    assert_eq!(rt; TtlvType::from_byte(0x0B), Err(TypeRefusal::Invalid(0x0B)));
-    assert_eq!(rt; TtlvType::Boolean.byte(), 0x06);
+    assert_eq!(rt; TtlvType::try_from(0x00), Err(TypeRefusal::Invalid(0x00)));
+    assert_eq!(rt; TtlvType::try_from(0x0B), Err(TypeRefusal::Invalid(0x0B)));
+    assert_eq!(rt; u8::from(TtlvType::Boolean), 0x06);
 }
 
 #[test]
@@ -31,10 +31,10 @@ fn names_are_shown(rt: HostRuntime) -> Result<(), Fail> {
 
 #[test]
 fn tags_and_lengths_are_written_highest_byte_first(rt: HostRuntime) {
-    assert!(rt; &TtlvTag::new(0x42005C).to_bytes() == b"\x42\x00\x5C");
-    assert_eq!(rt; TtlvTag::from_bytes([0x42, 0x00, 0x5C]).value(), 0x42005C);
-    assert!(rt; &TtlvLength::new(0x0102).to_bytes() == b"\x00\x00\x01\x02");
-    assert_eq!(rt; TtlvLength::from_bytes([0, 0, 1, 2]).value(), 0x0102);
+    assert!(rt; &<[u8; 3]>::from(TtlvTag::new(0x42005C)) == b"\x42\x00\x5C");
+    assert_eq!(rt; TtlvTag::from([0x42, 0x00, 0x5C]).value(), 0x42005C);
+    assert!(rt; &<[u8; 4]>::from(TtlvLength::new(0x0102)) == b"\x00\x00\x01\x02");
+    assert_eq!(rt; TtlvLength::from([0, 0, 1, 2]).value(), 0x0102);
 }
 
 #[test]

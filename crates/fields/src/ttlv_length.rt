@@ -20,18 +20,22 @@ impl TtlvLength {
         let TtlvLength(value) = *self;
         value
     }
+}
 
-    /// The length that four bytes write.
-    pub fn from_bytes(bytes: [u8; 4]) -> TtlvLength
-        ensures { result.0 ≡ of_be bytes }
-    {
+/// The length that four bytes write.
+impl From<[u8; 4]> for TtlvLength {
+    ghost from_gives = { λ bytes r. r.0 ≡ of_be bytes };
+
+    fn from(bytes: [u8; 4]) -> TtlvLength {
         TtlvLength(u32::from_be_bytes(bytes))
     }
+}
 
-    /// The length's four bytes.
-    pub fn to_bytes(&self) -> [u8; 4]
-        ensures { result ≡ be 4 self.now.0 }
-    {
-        self.0.to_be_bytes()
+/// The length's four bytes.
+impl From<TtlvLength> for [u8; 4] {
+    ghost from_gives = { λ length r. r ≡ be 4 length.0 };
+
+    fn from(length: TtlvLength) -> [u8; 4] {
+        length.0.to_be_bytes()
     }
 }

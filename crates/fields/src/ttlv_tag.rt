@@ -24,30 +24,34 @@ impl TtlvTag {
         self.0
     }
 
-    /// The tag that three bytes write.
-    pub fn from_bytes(bytes: [u8; 3]) -> TtlvTag
-        ensures { result.0 ≡ of_be bytes }
-    {
-        TtlvTag(u32::from_be_bytes([0, bytes[0], bytes[1], bytes[2]]))
-    }
-
-    /// The tag's three bytes, the lowest of its number.
-    pub fn to_bytes(&self) -> [u8; 3]
-        ensures { result ≡ be 3 self.now.0 }
-    {
-        let bytes = self.0.to_be_bytes();
-        [bytes[1], bytes[2], bytes[3]]
-    }
-
     /// The six uppercase digits of the tag's bytes.
     pub fn digits(&self) -> [u8; 6]
         ensures { result ≡ hexed (be 3 self.now.0) }
     {
-        let bytes = self.to_bytes();
+        let bytes = <[u8; 3]>::from(*self);
         let high = digits(bytes[0]);
         let middle = digits(bytes[1]);
         let low = digits(bytes[2]);
         [high[0], high[1], middle[0], middle[1], low[0], low[1]]
+    }
+}
+
+/// The tag that three bytes write.
+impl From<[u8; 3]> for TtlvTag {
+    ghost from_gives = { λ bytes r. r.0 ≡ of_be bytes };
+
+    fn from(bytes: [u8; 3]) -> TtlvTag {
+        TtlvTag(u32::from_be_bytes([0, bytes[0], bytes[1], bytes[2]]))
+    }
+}
+
+/// The tag's three bytes, the lowest of its number.
+impl From<TtlvTag> for [u8; 3] {
+    ghost from_gives = { λ tag r. r ≡ be 3 tag.0 };
+
+    fn from(tag: TtlvTag) -> [u8; 3] {
+        let bytes = tag.0.to_be_bytes();
+        [bytes[1], bytes[2], bytes[3]]
     }
 }
 

@@ -19,33 +19,6 @@ pub enum TtlvType {
 }
 
 impl TtlvType {
-    /// The type that a type byte stands for.
-    pub fn from_byte(byte: u8) -> Result<TtlvType, TypeRefusal>
-        ensures answer { result ≡ type_of_byte byte }
-        ensures types { TypesByte byte result }
-    {
-        match byte {
-            0x01 => Ok(TtlvType::Structure),
-            0x02 => Ok(TtlvType::Integer),
-            0x03 => Ok(TtlvType::LongInteger),
-            0x04 => Ok(TtlvType::BigInteger),
-            0x05 => Ok(TtlvType::Enumeration),
-            0x06 => Ok(TtlvType::Boolean),
-            0x07 => Ok(TtlvType::TextString),
-            0x08 => Ok(TtlvType::ByteString),
-            0x09 => Ok(TtlvType::DateTime),
-            0x0A => Err(TypeRefusal::Unsupported(byte)),
-            _ => Err(TypeRefusal::Invalid(byte)),
-        }
-    }
-
-    /// The type's byte.
-    pub fn byte(&self) -> u8
-        ensures { result ≡ type_byte self.now }
-    {
-        *self as u8
-    }
-
     /// The letter that stands for the type in diagnostic strings.
     pub fn letter(&self) -> char
         ensures { result ≡ type_letter self.now }
@@ -78,6 +51,38 @@ impl TtlvType {
             TtlvType::ByteString => "ByteString (0x08)",
             TtlvType::DateTime => "DateTime (0x09)",
         }
+    }
+}
+
+/// The type that a type byte stands for.
+impl TryFrom<u8> for TtlvType {
+    type Error = TypeRefusal;
+
+    ghost try_from_gives = { λ byte r. (r ≡ type_of_byte byte) × TypesByte byte r };
+
+    fn try_from(byte: u8) -> Result<TtlvType, TypeRefusal> {
+        match byte {
+            0x01 => Ok(TtlvType::Structure),
+            0x02 => Ok(TtlvType::Integer),
+            0x03 => Ok(TtlvType::LongInteger),
+            0x04 => Ok(TtlvType::BigInteger),
+            0x05 => Ok(TtlvType::Enumeration),
+            0x06 => Ok(TtlvType::Boolean),
+            0x07 => Ok(TtlvType::TextString),
+            0x08 => Ok(TtlvType::ByteString),
+            0x09 => Ok(TtlvType::DateTime),
+            0x0A => Err(TypeRefusal::Unsupported(byte)),
+            _ => Err(TypeRefusal::Invalid(byte)),
+        }
+    }
+}
+
+/// The type's byte.
+impl From<TtlvType> for u8 {
+    ghost from_gives = { λ kind r. r ≡ type_byte kind };
+
+    fn from(kind: TtlvType) -> u8 {
+        kind as u8
     }
 }
 

@@ -18,10 +18,9 @@ pub fn digit_value(c: u8) -> Option<u8>
 pub fn pair_value(high: u8, low: u8) -> Option<u8>
     ensures { result ≡ both (nibble high) (nibble low) }
 {
-    match (digit_value(high), digit_value(low)) {
-        (Some(h), Some(l)) => Some(h * 16 + l),
-        _ => None,
-    }
+    let h = digit_value(high)?;
+    let l = digit_value(low)?;
+    Some(h * 16 + l)
 }
 
 /// The value of a digit, and 0 for any other character.

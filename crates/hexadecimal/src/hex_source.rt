@@ -67,14 +67,12 @@ impl<S: Source> Source for HexSource<S> {
         ensures most { result ≡ min (length buf.old) (length (hex_ahead self.old.ended (S.Source.ahead self.old.below))) }
         ensures takes { record { ended = self.new.ended; text = S.Source.ahead self.new.below } ≡ hex_asked (length buf.old) self.old.ended (S.Source.ahead self.old.below) }
     {
-        let mut done = 0;
-        while done < buf.len() {
+        for i in 0..buf.len() {
             let Some(b) = self.next_byte() else {
-                return done;
+                return i;
             };
-            buf[done] = b;
-            done += 1;
+            buf[i] = b;
         }
-        done
+        buf.len()
     }
 }

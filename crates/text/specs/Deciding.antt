@@ -1,5 +1,5 @@
 -- Deciding byte by byte whether bytes are text.
-use Rattle.std.specs.Prelude.{ℕ, Bool, true, false, cond, ◌&&◌, List, [], ◌∷◌, ◌==◌, nat_le, nat_lt}
+use Rattle.std.specs.Prelude.{ℕ, Bool, true, false, cond, ◌&&◌, List, fold, ◌==◌, nat_le, nat_lt}
 use Rattle.text.specs.declared.utf8.Utf8.{Utf8}
 use Rattle.text.specs.declared.utf8.Utf8.TheVariants.{Start, Second, Tail1, Tail2, Bad}
 
@@ -27,8 +27,7 @@ stepped Bad b = Bad
 
 -- Several bytes more.
 abbrev pub run : Utf8 → List ℕ → Utf8
-run s [] = s
-run s (b ∷ bytes) = run (stepped s b) bytes
+run s bytes = fold stepped s bytes
 
 -- Whether what was seen is whole.
 abbrev pub whole : Utf8 → Bool

@@ -74,21 +74,14 @@ impl Utf8 {
     pub fn run(self, bytes: &[u8]) -> Utf8
         ensures { result ≡ ran self bytes.now }
     {
-        let mut after = self;
-        for b in bytes {
-            after = after.step(*b);
-        }
-        after
+        bytes.iter().fold(self, |after, b| after.step(*b))
     }
 
     /// Whether all characters seen are whole.
     pub fn is_whole(self) -> bool
         ensures { result ≡ whole_text self }
     {
-        match self {
-            Utf8::Start => true,
-            _ => false,
-        }
+        self == Utf8::Start
     }
 }
 
@@ -97,9 +90,5 @@ pub fn is_text(bytes: &[u8]) -> bool
     ensures answer { result ≡ textual bytes.now }
     ensures text { Decides result (Text bytes.now) }
 {
-    let mut seen = Utf8::Start;
-    for b in bytes {
-        seen = seen.step(*b);
-    }
-    seen.is_whole()
+    Utf8::Start.run(bytes).is_whole()
 }
