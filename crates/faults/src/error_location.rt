@@ -7,7 +7,7 @@ use fields::ttlv_type::TtlvType;
 use std::fmt;
 
 /// Where a fault sits: the item's first byte, counted from 0, and its tag and type, as far as they are known.
-#[derive(Clone, Copy, PartialEq, Eq, Debug)]
+#[derive(Clone, Copy, PartialEq, Eq, Default, Debug)]
 pub struct ErrorLocation {
     pub offset: Option<ByteOffset>,
     pub tag: Option<TtlvTag>,
@@ -29,18 +29,14 @@ impl ErrorLocation {
     pub fn unknown() -> ErrorLocation
         ensures { result ≡ unplaced }
     {
-        ErrorLocation {
-            offset: None,
-            tag: None,
-            kind: None,
-        }
+        ErrorLocation::default()
     }
 
     /// Whether nothing is known of the place.
     pub fn is_unknown(&self) -> bool
         ensures { result ≡ (is_none self.now.offset && (is_none self.now.tag && is_none self.now.kind)) }
     {
-        self.offset.is_none() && self.tag.is_none() && self.kind.is_none()
+        *self == ErrorLocation::unknown()
     }
 
     /// The place with the tag, unless it has one.

@@ -44,8 +44,5 @@ impl fmt::Display for Fault {
 pub fn pinpoint<T>(read: Result<T, ItemFault>, location: ErrorLocation) -> Result<T, Fault>
     ensures { result ≡ pinned read location }
 {
-    match read {
-        Ok(x) => Ok(x),
-        Err(cause) => Err(Fault { cause, location }),
-    }
+    read.map_err(|cause| Fault { cause, location })
 }

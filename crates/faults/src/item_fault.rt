@@ -38,10 +38,10 @@ impl ItemFault {
     pub fn layer(&self) -> Layer
         ensures { result ≡ layer_of (item_number self.now) }
     {
-        match self.number() {
-            1 => Layer::Source,
-            2 | 3 | 9 => Layer::Item,
-            _ => Layer::Value,
+        match self {
+            ItemFault::Source(_) | ItemFault::Value(ValueFault::Source(_)) => Layer::Source,
+            ItemFault::Type(_) | ItemFault::Field(_) => Layer::Item,
+            ItemFault::Value(_) => Layer::Value,
         }
     }
 }

@@ -25,11 +25,6 @@ pub record ReadsField {X : Type 0} (field : FieldType) (n : ℕ) (x : Result X I
   pub state : s' ≡ (advanced s field).1
   pub left : new ≡ field_left (advanced s field).0 n old
 
--- The bytes of a field that was read.
-abbrev pub FillsField : {X : Type 0} → ℕ → List ℕ → List ℕ → Result X ItemFault → Type 0
-FillsField n old bytes (Ok _) = bytes ≡ take n old
-FillsField n old bytes (Err _) = Unit {0}
-
 -- A type byte's verdict as an answer on the item.
 abbrev pub typed : Result TtlvType TypeRefusal → Result TtlvType ItemFault
 typed (Ok t) = Ok t

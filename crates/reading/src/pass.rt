@@ -37,8 +37,8 @@ pub fn pass_over<R: Source>(src: &mut R, n: usize) -> Result<Utf8, ReadRefusal>
 fn number_of(kind: TtlvType, bytes: &[u8]) -> Option<u32>
     ensures { fits (type_byte kind) (length bytes.now) ≡ true → result ≡ printed (type_byte kind) bytes.now }
 {
-    match (kind, bytes) {
-        (TtlvType::Enumeration, [a, b, c, d]) => Some(u32::from_be_bytes([*a, *b, *c, *d])),
+    match kind {
+        TtlvType::Enumeration => bytes.as_array().map(|four| u32::from_be_bytes(*four)),
         _ => None,
     }
 }

@@ -17,7 +17,7 @@ pub fn read_value_length<R: Source>(src: &mut R, kind: TtlvType) -> Result<usize
 {
     let mut bytes = [0u8; 4];
     read_exact(src, &mut bytes)?;
-    let len = TtlvLength::from_bytes(bytes).value() as usize;
+    let len = TtlvLength::from(bytes).value() as usize;
     check_length(kind, len)?;
     Ok(len)
 }

@@ -1,10 +1,7 @@
 use Rattle.std.proofs.Common.{◌-◌, take, replicate, arith}
 use Rattle.std.proofs.lemmas.List.{length-take, length-replicate}
-use Rattle.reading.proofs.Passing.{passing_none, passing_more, passing_all, passing_ended}
+use Rattle.reading.proofs.Passing.{passing_more}
 use Rattle.reading.proofs.pass.pass_over.Goals as goal
-
-pub loop-taken-init : goal.loop-taken-init
-loop-taken-init g c = passing_none (g.R.Source.ahead c.args.src.now) c.args.n
 
 pub loop-taken-preserved : goal.loop-taken-preserved
 loop-taken-preserved g c =
@@ -12,13 +9,3 @@ loop-taken-preserved g c =
     (take (c.min-most.result - 0) (replicate 256 0)) c.read-m.new.buf c.args.n c.loop-taken.taken c.read-m.result c.loop-taken.seen c.run-seen.result
     c.loop-taken.invariant c.read-m.ensures (simp (length-take, length-replicate) (omega arith)) c.run-seen.ensures
 
-pub returns-then-m-eq0 : goal.returns-then-m-eq0
-returns-then-m-eq0 g c =
-    passing_ended (g.R.Source.ahead c.args.src.now) (g.R.Source.ahead c.loop-taken.src) (g.R.Source.ahead c.read-m.new.self)
-    (take (c.min-most.result - 0) (replicate 256 0)) c.read-m.new.buf c.args.n c.loop-taken.taken c.read-m.result c.loop-taken.seen
-    c.loop-taken.invariant c.read-m.ensures (simp (length-take, length-replicate) (omega arith)) c.loop-taken-test.true c.if-m-eq0.true
-
-pub returns : goal.returns
-returns g c =
-    passing_all (g.R.Source.ahead c.args.src.now) (g.R.Source.ahead c.loop-taken.src) c.args.n c.loop-taken.taken c.loop-taken.seen
-    c.loop-taken.invariant c.loop-taken-test.false

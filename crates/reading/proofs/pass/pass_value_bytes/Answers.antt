@@ -3,15 +3,9 @@ use Rattle.std.proofs.lemmas.List.{length-take, length-replicate, length-take-le
 use Rattle.std.proofs.lemmas.Result.{err_from_is_err_and}
 use Rattle.fields.specs.Types.{type_byte}
 use Rattle.reading.specs.Reads.{printed}
-use Rattle.reading.proofs.Parted.{bytes_ended, bytes_bad, bytes_refused, bytes_whole}
-use Rattle.reading.proofs.Long.{long_is, long_good_bytes, short_good_bytes}
+use Rattle.reading.proofs.Parted.{bytes_bad, bytes_refused}
+use Rattle.reading.proofs.Long.{long_is, long_good_bytes}
 use Rattle.reading.proofs.pass.pass_value_bytes.Goals as goal
-
-pub returns-in_err-seen : goal.returns-in_err-seen
-returns-in_err-seen g c =
-    let p = err_from_is_err_and c.from_residual.result c.from_residual.ensures.1 in
-    let old = g.R.Source.ahead c.args.src.now in
-    rw (p.1, p.2) (bytes_ended (printed (type_byte c.args.kind) (take c.args.len old)) c.args.kind c.args.len old (g.R.Source.ahead c.pass_over.new.src) c.in_err-seen.field-0.0 c.in_err-seen.ensures)
 
 pub returns-in_err-check_long : goal.returns-in_err-check_long
 returns-in_err-check_long g c =
@@ -36,12 +30,3 @@ returns-in_err-read_value_bytes g c =
     rw (p.1, p.2) (bytes_refused tt (printed (type_byte c.args.kind) (take c.args.len old)) c.args.kind (length (take (c.args.len - 0) (replicate 8 0))) c.args.len old (g.R.Source.ahead c.read_value_bytes.new.src)
     c.in_err-read_value_bytes.field-0.0 l c.in_err-read_value_bytes.ensures.reads)
 
-pub returns : goal.returns
-returns g c =
-    let old = g.R.Source.ahead c.args.src.now in
-    let new = g.R.Source.ahead c.read_value_bytes.new.src in
-    let buf = take (c.args.len - 0) (replicate 8 0) in
-    let l : length (take (c.args.len - 0) (replicate 8 0)) ≡ c.args.len = simp (length-take, length-replicate) (omega arith) in
-    short_good_bytes c.args.kind c.args.len old new buf c.read_value_bytes.new.value c.number_of.result
-    (bytes_whole tt c.in_ok-read_value_bytes.field-0 c.args.kind (length buf) c.args.len old new l c.in_ok-read_value_bytes.ensures.reads) l
-    c.in_ok-read_value_bytes.ensures.filled c.number_of.ensures
