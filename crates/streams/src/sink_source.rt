@@ -31,10 +31,7 @@ impl<S: Sink> Source for SinkSource<'_, S> {
         let left = self.sink.count().saturating_sub(self.at);
         let m = left.min(buf.len());
         for i in 0..m {
-            buf[i] = match self.sink.byte_at(self.at + i) {
-                Ok(b) => b,
-                Err(_) => unreachable(),
-            };
+            buf[i] = self.sink.byte_at(self.at + i).unwrap();
         }
         self.at += m;
         m

@@ -10,4 +10,3 @@ loop-b-preserved g c =
     let store = g.S.Sink.store in
     grown_more (store c.args.dst.now) (store c.loop-b.dst) (store c.put.new.self) c.args.text.now c.loop-b.b-index
     c.loop-b.invariant c.loop-b-test.true c.in_ok-put.ensures
-
