@@ -8,6 +8,7 @@ use crate::sink::{Sink, overwrite};
 #[derive(Drop)]
 pub struct BufferSink<'a> {
     buf: &'a mut [u8],
+    // the caller's memory, for programs that have no heap
     len: usize,
     ghost within: { len ≤ length buf.now },
 }

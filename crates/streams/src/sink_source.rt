@@ -8,6 +8,7 @@ use crate::source::Source;
 #[derive(Drop)]
 pub struct SinkSource<'a, S> {
     sink: &'a S,
+    // a place, since a sink lends no slice of what it holds
     at: usize,
 }
 

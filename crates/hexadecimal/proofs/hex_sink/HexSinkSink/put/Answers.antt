@@ -21,4 +21,3 @@ pub returns : goal.returns
 returns g c =
     grown_all (hex_store c.args.self.now.below.ghost_name (g.S.Sink.store c.args.self.now.below.now)) (hex_store c.loop-b.self.below.ghost_name (g.S.Sink.store c.loop-b.self.below.now))
     c.args.bytes.now c.loop-b.b-index c.loop-b.invariant c.loop-b-test.false
-
