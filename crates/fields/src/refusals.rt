@@ -2,6 +2,7 @@ ghost use Rattle.std.specs.Prelude.{◌≡◌, Some};
 ghost use Rattle.fields.specs.Refusals.{type_number, advance_number, ignore_number, type_text, advance_text, ignore_text};
 
 use crate::field_type::FieldType;
+use std::error::Error;
 use std::fmt;
 
 /// Why a byte is refused as a type.
@@ -39,6 +40,8 @@ impl fmt::Display for TypeRefusal {
     }
 }
 
+impl Error for TypeRefusal {}
+
 /// Why the state machine does not go on.
 #[derive(Clone, Copy, PartialEq, Eq, Debug)]
 pub enum AdvanceRefusal {
@@ -73,6 +76,8 @@ impl fmt::Display for AdvanceRefusal {
     }
 }
 
+impl Error for AdvanceRefusal {}
+
 /// Why the state machine does not ignore a tag.
 #[derive(Clone, Copy, PartialEq, Eq, Debug)]
 pub enum IgnoreRefusal {
@@ -103,3 +108,5 @@ impl fmt::Display for IgnoreRefusal {
         }
     }
 }
+
+impl Error for IgnoreRefusal {}

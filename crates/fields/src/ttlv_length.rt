@@ -1,7 +1,7 @@
 ghost use Rattle.std.specs.Prelude.{◌≡◌};
 ghost use Rattle.ttlv.specs.Numbers.{be, of_be};
 
-/// The length of an item's value.
+/// The length of an item's value: a number with its highest byte first as a tag is, and no tag.
 #[derive(Clone, Copy, PartialEq, Eq, Debug)]
 pub struct TtlvLength(u32);
 

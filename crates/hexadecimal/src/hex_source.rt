@@ -11,6 +11,7 @@ use streams::source::Source;
 #[derive(Drop)]
 pub struct HexSource<S> {
     below: S,
+    // beside the source, which the layer gives back after its end too
     ended: bool,
 }
 

@@ -1,9 +1,9 @@
 -- Reads that repeat.
-use Rattle.std.proofs.Common.{◌≡◌, ℕ, ◌+◌, ◌-◌, ◌<◌, ◌≤◌, min, List, [], ◌∷◌, ◌++◌, length, get_or, take, drop, set, sym, refl, ap, ◌∙◌, subst, add_assoc, arith}
+use Rattle.std.proofs.Common.{◌≡◌, ℕ, ◌+◌, ◌-◌, ◌<◌, ◌≤◌, min, List, [], ◌∷◌, ◌++◌, length, get_or, take, drop, set, sym, ap, ◌∙◌, subst, add_assoc, arith}
 use borrow.Rule.Slice.PartMut.{put_mid}
-use Rattle.std.proofs.lemmas.List.{drop-drop, drop-take, drop_all, drop_at, drop_more, take_at, take-take, take_rest, take_all, take_more, take-append-drop, append_assoc, append-nil, set_at, length-take-le, length-drop}
-use Rattle.streams.specs.declared.refusals.ReadRefusal.TheVariants.{Ended}
-use Rattle.streams.specs.Sources.{Handed, Served, Cut}
+use Rattle.std.proofs.Math.Seq.{take-add}
+use Rattle.std.proofs.lemmas.List.{drop-drop, drop_all, drop_at, drop_more, take_at, take_rest, take_more, append_assoc, append-nil, set_at, length-take-le, length-drop}
+use Rattle.streams.specs.Sources.{Handed}
 
 -- A read that goes on: `done` bytes of `old` have come so far.
 pub record Going (old new buf buf' : List ℕ) (done : ℕ) : Type 0 where
@@ -11,21 +11,6 @@ pub record Going (old new buf buf' : List ℕ) (done : ℕ) : Type 0 where
   pub had : done ≤ length old
   pub filled : buf' ≡ take done old ++ drop done buf
   pub left : new ≡ drop done old
-
--- Nothing came, since nothing is ahead.
-pub handed_none : (old buf : List ℕ) → length old ≡ 0 → Handed old old buf buf 0
-handed_none old buf h = record { within = omega arith; had = omega arith; some = λ _ p. omega arith; filled = refl; left = refl }
-
--- The first n + m: the first n, then m more.
-pub take_add : (n m : ℕ) (xs : List ℕ) → take (n + m) xs ≡ take n xs ++ take m (drop n xs)
-take_add n m xs =
-    let a = take-append-drop n (take (n + m) xs) in
-    let b : take n (take (n + m) xs) ≡ take n xs = take-take n (n + m) xs (omega arith) in
-    let d = drop-take n m xs in
-    cc
-
-pub going_none : (old buf : List ℕ) → Going old old buf buf 0
-going_none old buf = record { within = omega arith; had = omega arith; filled = refl; left = refl }
 
 -- One read more, into the rest of the buffer.
 pub going_more : (old new new' buf buf' part : List ℕ) (done m : ℕ)
@@ -38,7 +23,7 @@ going_more old new new' buf buf' part done m g h =
     let dd : drop done buf' ≡ drop done buf = ap (λ l. drop done l) g.filled ∙ drop_at (take done old) (drop done buf) done t in
     let po : drop (length buf' - done) (drop done buf') ≡ [] = drop_all (length buf' - done) (drop done buf') (simp length-drop (omega arith)) in
     let pa : part ≡ take m (drop done old) ++ drop m (drop done buf) = h.filled ∙ rw (r, dd, g.left) in
-    let ta = take_add done m old in
+    let ta = take-add done m old in
     let db = drop-drop m done buf in
     let nb = drop-drop m done old in
     let hn : m ≤ length (drop done old) = subst (λ l. m ≤ length l) g.left h.had in
@@ -48,32 +33,6 @@ going_more old new new' buf buf' part done m g h =
       had = omega (arith, simp length-drop at hn, g.had);
       filled = simp (td, po, append-nil, pa, ta, ← db, append_assoc);
       left = h.left ∙ ap (λ l. drop m l) g.left ∙ nb;
-    }
-
--- The buffer is full.
-pub going_all : (old new buf buf' : List ℕ) (done : ℕ) → Going old new buf buf' done → length buf ≤ done → Served old new buf buf'
-going_all old new buf buf' done g h =
-    let e : done ≡ length buf = omega (arith, g.within) in
-    let d : drop done buf ≡ [] = drop_all done buf h in
-    record { enough = omega (arith, g.had); filled = g.filled ∙ rw (d, append-nil) (ap (λ n. take n old) e); left = g.left ∙ ap (λ n. drop n old) e }
-
--- The source ended.
-pub going_ended : (old new new' buf buf' part : List ℕ) (done m : ℕ)
-    → Going old new buf buf' done → Handed new new' (take (length buf' - done) (drop done buf')) part m → length buf' ≡ length buf → done < length buf → m ≡ 0
-    → Cut old new' buf (put_mid done (length buf' - done) buf' part) (Ended done)
-going_ended old new new' buf buf' part done m g h l lt z =
-    let k = going_more old new new' buf buf' part done m g h in
-    let r : take (length buf' - done) (drop done buf') ≡ drop done buf' = take_rest buf' done in
-    let hb : 0 < length (take (length buf' - done) (drop done buf')) = simp (r, length-drop) (omega arith) in
-    let n : length new ≡ 0 = grind (arith, h.some hb) in
-    let o : length old ≡ done = omega (arith, simp length-drop at (ap length g.left), g.had) in
-    let e : done + m ≡ length old = omega arith in
-    record {
-      number = refl;
-      short = omega arith;
-      taken = omega arith;
-      filled = k.filled ∙ simp (e, take_all (length old) old (omega arith));
-      left = k.left ∙ drop_all (done + m) old (omega arith);
     }
 
 -- One byte more came, into its place.

@@ -1,4 +1,4 @@
-ghost use Rattle.std.specs.Prelude.{◌≡◌, ◌≤◌, length, take};
+ghost use Rattle.std.specs.Prelude.{◌≡◌, ◌≤◌, min, length, take};
 ghost use Rattle.streams.specs.Sinks.{buffer_store};
 
 use crate::refusals::{PlaceRefusal, PutRefusal};
@@ -8,6 +8,7 @@ use crate::sink::{Sink, overwrite};
 #[derive(Drop)]
 pub struct BufferSink<'a> {
     buf: &'a mut [u8],
+    // the caller's memory, for programs that have no heap
     len: usize,
     ghost within: { len ≤ length buf.now },
 }
@@ -51,7 +52,10 @@ impl Sink for BufferSink<'_> {
         self.bytes().get(p).copied().ok_or(PlaceRefusal::OutOfRange)
     }
 
-    fn count(&self) -> usize {
+    fn count(&self) -> usize
+        ensures held { result ≡ length (take self.now.len self.now.buf.now) }
+        ensures within { result ≡ min self.now.len (length self.now.buf.now) }
+    {
         self.bytes().len()
     }
 

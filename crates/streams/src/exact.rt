@@ -7,6 +7,7 @@ use crate::source::Source;
 pub fn read_exact<S: Source>(src: &mut S, buf: &mut [u8]) -> Result<(), ReadRefusal>
     ensures { Reads (S.ahead src.old) (S.ahead src.new) buf.old buf.new result }
 {
+    // the source chooses how many bytes come at a time, and the refusal tells the count
     let mut taken = 0;
     while taken < buf.len() {
         let m = src.read(&mut buf[taken..]);

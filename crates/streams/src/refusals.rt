@@ -1,6 +1,7 @@
 ghost use Rattle.std.specs.Prelude.{◌≡◌, Some};
 ghost use Rattle.streams.specs.Refusals.{read_number, put_number, place_number, read_text, put_text, place_text};
 
+use std::error::Error;
 use std::fmt;
 
 /// Why an exact read is refused.
@@ -34,6 +35,8 @@ impl fmt::Display for ReadRefusal {
     }
 }
 
+impl Error for ReadRefusal {}
+
 /// Why a put is refused.
 #[derive(Clone, Copy, PartialEq, Eq, Debug)]
 pub enum PutRefusal {
@@ -62,6 +65,8 @@ impl fmt::Display for PutRefusal {
     }
 }
 
+impl Error for PutRefusal {}
+
 /// Why a patch or a look is refused.
 #[derive(Clone, Copy, PartialEq, Eq, Debug)]
 pub enum PlaceRefusal {
@@ -89,3 +94,5 @@ impl fmt::Display for PlaceRefusal {
         }
     }
 }
+
+impl Error for PlaceRefusal {}

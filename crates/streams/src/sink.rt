@@ -29,7 +29,7 @@ pub trait Sink {
         ensures { result ≡ (store self.now).memory.room };
 }
 
-/// Whether `len` bytes from `at` on reach past the first `count`.
+/// Whether `len` bytes from `at` on reach past the first `count`: a question that layers ask of places they cannot lend as a slice.
 pub fn reaches_past(at: usize, len: usize, count: usize) -> bool
     ensures { result ≡ nat_lt count (at + len) }
 {

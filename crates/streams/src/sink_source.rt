@@ -8,6 +8,7 @@ use crate::source::Source;
 #[derive(Drop)]
 pub struct SinkSource<'a, S> {
     sink: &'a S,
+    // a place, since a sink lends no slice of what it holds
     at: usize,
 }
 
@@ -31,10 +32,7 @@ impl<S: Sink> Source for SinkSource<'_, S> {
         let left = self.sink.count().saturating_sub(self.at);
         let m = left.min(buf.len());
         for i in 0..m {
-            buf[i] = match self.sink.byte_at(self.at + i) {
-                Ok(b) => b,
-                Err(_) => unreachable(),
-            };
+            buf[i] = self.sink.byte_at(self.at + i).unwrap();
         }
         self.at += m;
         m

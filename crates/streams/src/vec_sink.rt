@@ -9,6 +9,7 @@ use std::alloc::{AllocError, Global};
 #[derive(Drop)]
 pub struct VecSink {
     bytes: Vec<u8>,
+    // the room that was asked for: the memory may be larger
     reserved: usize,
     ghost fits: { (vec_len bytes ≤ reserved) × (reserved ≤ vec_capacity bytes) },
 }

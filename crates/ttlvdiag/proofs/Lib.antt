@@ -1,2 +1,2 @@
-mod Cutting
-mod Shown
+pub mod Cutting
+pub mod Shown

@@ -1,6 +1,7 @@
 -- The lines of an input.
 use Rattle.std.specs.Prelude.{◌≡◌, ℕ, ◌<◌, cond, List, [], ◌∷◌, ◌++◌, length, ◌==◌, ◌≢◌, slice_index}
 use Rattle.std.specs.List.{flat_map}
+use Rattle.ttlvdiag.specs.declared.lines.Lines.{Lines}
 
 -- A character in front of the first line.
 abbrev pub led_by : ℕ → List (List ℕ) → List (List ℕ)
@@ -11,6 +12,10 @@ led_by c (line ∷ more) = (c ∷ line) ∷ more
 abbrev pub lines : List ℕ → List (List ℕ)
 lines [] = []
 lines (c ∷ text) = cond (c == 10) ([] ∷ lines text) (led_by c (lines text))
+
+-- What an iterator over lines has still to give: the lines of the text that is left.
+abbrev pub lines_left : Lines → List (List ℕ)
+lines_left it = lines it.rest.now
 
 -- The first line of a text, and what follows its LF.
 abbrev pub first_line : List ℕ → List ℕ

@@ -1,10 +1,9 @@
-ghost use Rattle.std.specs.Prelude.{◌≡◌, ◌++◌, IfOk, OnOk};
+ghost use Rattle.std.specs.Prelude.{◌≡◌, ◌++◌, IfOk, OnOk, string_bytes};
 ghost use Rattle.hexadecimal.specs.Digits.{hexed};
 ghost use Rattle.ttlvdiag.specs.Lines.{CutsAtLf};
 ghost use Rattle.ttlvdiag.specs.Reports.{message_text, report_text};
 
-use crate::lines::split_line;
-use hexadecimal::digits::digits;
+use crate::lines::Lines;
 use hexadecimal::hex_source::HexSource;
 use std::alloc::{AllocError, Global};
 use streams::slice_source::SliceSource;
@@ -14,18 +13,20 @@ use streams::source::Source;
 pub const LIMIT: usize = 65536;
 
 /// Adds `bytes` to `out` in uppercase hexadecimal.
-fn add_hex(out: &mut Vec<u8>, bytes: &[u8]) -> Result<(), AllocError>
-    ensures { OnOk result (out.new.items ≡ out.old.items ++ hexed bytes.now) }
+#[tactic(auto, using(crate::proofs::Shown::prints))]
+fn add_hex(out: &mut String, bytes: &[u8]) -> Result<(), AllocError>
+    ensures { OnOk result (string_bytes out.new ≡ string_bytes out.old ++ hexed bytes.now) }
 {
     for b in bytes {
-        out.extend_from_slice(&digits(*b))?;
+        write!(out, "{b:02X}")?;
     }
     Ok(())
 }
 
 /// Adds the text for the message that a line spells to `out`.
-fn add_message(out: &mut Vec<u8>, line: &[u8]) -> Result<(), AllocError>
-    ensures { OnOk result (out.new.items ≡ out.old.items ++ message_text line.now) }
+#[tactic(auto, using(crate::proofs::Shown::reads))]
+fn add_message(out: &mut String, line: &[u8]) -> Result<(), AllocError>
+    ensures { OnOk result (string_bytes out.new ≡ string_bytes out.old ++ message_text line.now) }
 {
     let mut message = HexSource::new(SliceSource::new(line));
     let mut part = [0u8; 256];
@@ -34,25 +35,23 @@ fn add_message(out: &mut Vec<u8>, line: &[u8]) -> Result<(), AllocError>
         if m == 0 {
             return Ok(());
         }
-        add_hex(out, &part[0..m])?;
+        add_hex(out, &part[..m])?;
     }
 }
 
 /// The text that the program puts for `input`.
-pub fn report(heap: Global, input: &[u8]) -> Result<Vec<u8>, AllocError>
-    ensures text { IfOk result (λ out. out.items ≡ report_text input.now) }
+#[tactic(auto, using(crate::proofs::Cutting::cuts_at_lf))]
+pub fn report(heap: Global, input: &[u8]) -> Result<String, AllocError>
+    ensures text { IfOk result (λ out. string_bytes out ≡ report_text input.now) }
     ensures law { CutsAtLf }
 {
     if input.len() > LIMIT {
-        return Vec::from_slice(heap, b"too long\n");
+        return String::from_str(heap, "too long\n");
     }
-    let mut out = Vec::new(heap);
-    let mut rest = input;
-    while !rest.is_empty() {
-        let (line, more) = split_line(rest);
+    let mut out = String::new(heap);
+    for line in Lines::new(input) {
         add_message(&mut out, line)?;
-        out.push(b'\n')?;
-        rest = more;
+        out.push('\n')?;
     }
     Ok(out)
 }

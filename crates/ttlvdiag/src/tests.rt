@@ -5,11 +5,11 @@ use std::test::Fail;
 #[test]
 fn lines_end_at_lf_and_at_the_end(rt: HostRuntime) -> Result<(), Fail> {
     let out = report(rt.alloc(), b"4200\n\n42 00\n0a")?;
-    assert!(rt; out.as_slice() == b"4200\n\n42\n0A\n".as_slice());
+    assert!(rt; out.as_bytes() == b"4200\n\n42\n0A\n".as_slice());
     let none = report(rt.alloc(), b"")?;
-    assert!(rt; none.as_slice() == b"".as_slice());
+    assert!(rt; none.as_bytes() == b"".as_slice());
     let last = report(rt.alloc(), b"42\n")?;
-    assert!(rt; last.as_slice() == b"42\n".as_slice());
+    assert!(rt; last.as_bytes() == b"42\n".as_slice());
     Ok(())
 }
 
@@ -20,6 +20,6 @@ fn the_limit_is_the_last_length_that_is_looked_at(rt: HostRuntime) -> Result<(),
     assert_eq!(rt; out.len(), 65536);
     let more = vec![in rt.alloc(); b'\n'; 65537]?;
     let refused = report(rt.alloc(), more.as_slice())?;
-    assert!(rt; refused.as_slice() == b"too long\n".as_slice());
+    assert!(rt; refused.as_bytes() == b"too long\n".as_slice());
     Ok(())
 }

@@ -1,6 +1,6 @@
-use Rattle.std.proofs.Common.{◌≡◌, ◌++◌, take, vec_items}
+use Rattle.std.proofs.Common.{◌≡◌, ◌++◌, take, string_bytes}
 use Rattle.hexadecimal.specs.Digits.{hexed}
 use Rattle.ttlvdiag.proofs.report.add_hex.Given as goal
 
 abbrev pub invariant-loop-b : goal.invariant-loop-b
-invariant-loop-b l = vec_items l.out ≡ vec_items l.initial.out ++ hexed (take l.b-index l.bytes)
+invariant-loop-b l = string_bytes l.out ≡ string_bytes l.initial.out ++ hexed (take l.b-index l.bytes)

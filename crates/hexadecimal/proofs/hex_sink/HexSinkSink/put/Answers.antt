@@ -2,7 +2,7 @@ use Rattle.std.proofs.Common.{get_or, arith}
 use mir.Facts.{Fits-lt-pow}
 use Rattle.hexadecimal.specs.Layers.{hex_store}
 use Rattle.streams.proofs.Growing.{grown_none, grown_more, grown_all}
-use Rattle.hexadecimal.proofs.Layered.{hex_put_one, hex_left, hex_no_break}
+use Rattle.hexadecimal.proofs.Layered.{hex_put_one, hex_left}
 use Rattle.hexadecimal.proofs.hex_sink.HexSinkSink.put.Goals as goal
 
 pub loop-b-init : goal.loop-b-init
@@ -21,11 +21,3 @@ pub returns : goal.returns
 returns g c =
     grown_all (hex_store c.args.self.now.below.ghost_name (g.S.Sink.store c.args.self.now.below.now)) (hex_store c.loop-b.self.below.ghost_name (g.S.Sink.store c.loop-b.self.below.now))
     c.args.bytes.now c.loop-b.b-index c.loop-b.invariant c.loop-b-test.false
-
-pub returns-in_err-put : goal.returns-in_err-put
-returns-in_err-put g c =
-    let s = g.S.Sink.store c.args.self.now.below.now in let t = g.S.Sink.store c.loop-b.self.below.now in let u = g.S.Sink.store c.put.new.self in
-    let n₀ = c.args.self.now.below.ghost_name in let n = c.loop-b.self.below.ghost_name in
-    let bytes = c.args.bytes.now in let i = c.loop-b.b-index in
-    let more = hex_left (hex_store n₀ s) (hex_store n t) bytes i c.loop-b.invariant c.loop-b-test.true (omega arith) in
-    absurd (hex_no_break n t c.digits.result (get_or bytes i 0) c.digits.ensures c.in_err-put.ensures.0 more)

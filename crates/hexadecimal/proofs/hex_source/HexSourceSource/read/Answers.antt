@@ -1,15 +1,8 @@
 use Rattle.std.proofs.Common.{◌≡◌, ◌+◌, ◌-◌, length, ap, ◌∙◌, arith}
-use Rattle.streams.proofs.Going.{going_none, going_push, going_over, going_full, most_over, most_full}
+use Rattle.streams.proofs.Going.{going_push, going_over, going_full, most_over, most_full}
 use Rattle.hexadecimal.specs.Layers.{hex_ahead, hex_asked}
 use Rattle.hexadecimal.proofs.Spelled.{asked_none, asked_then, asked_ended, ahead_ended}
 use Rattle.hexadecimal.proofs.hex_source.HexSourceSource.read.Goals as goal
-
-pub loop-i-init : goal.loop-i-init
-loop-i-init g c =
-    let s = c.args.self.now in (
-      going_none (hex_ahead s.ended (g.S.Source.ahead s.below)) c.args.buf.now,
-      ap (λ n. hex_asked n s.ended (g.S.Source.ahead s.below)) (let e : length c.args.buf.now - 0 ≡ length c.args.buf.now = omega arith in e),
-    )
 
 pub loop-i-preserved : goal.loop-i-preserved
 loop-i-preserved g c =
