@@ -5,6 +5,7 @@ ghost use Rattle.faults.specs.Pinned.{pinned};
 use crate::error_location::ErrorLocation;
 use crate::item_fault::ItemFault;
 use crate::layer::Layer;
+use std::error::Error;
 use std::fmt;
 
 /// Why and where an item is not read.
@@ -39,6 +40,8 @@ impl fmt::Display for Fault {
         write!(f, "{cause} ({location})")
     }
 }
+
+impl Error for Fault {}
 
 /// Adds the place to the cause of a fault.
 pub fn pinpoint<T>(read: Result<T, ItemFault>, location: ErrorLocation) -> Result<T, Fault>

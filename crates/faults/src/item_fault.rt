@@ -5,6 +5,7 @@ ghost use Rattle.faults.specs.declared.item_fault.ItemFault.TheVariants.{Source 
 use crate::layer::Layer;
 use fields::refusals::{AdvanceRefusal, TypeRefusal};
 use reading::refusals::ValueFault;
+use std::error::Error;
 use std::fmt;
 use streams::refusals::ReadRefusal;
 
@@ -90,3 +91,5 @@ impl fmt::Display for ItemFault {
         }
     }
 }
+
+impl Error for ItemFault {}

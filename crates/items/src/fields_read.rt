@@ -13,7 +13,7 @@ use fields::ttlv_type::TtlvType;
 use streams::exact::read_exact;
 use streams::source::Source;
 
-/// Reads the bytes of a field, if the state machine expects it.
+/// Reads the bytes of a field, if the state machine expects it. Source and machine are the caller's, each with a life of its own.
 fn read_bytes<const N: usize, R: Source>(
     src: &mut R,
     state: &mut TtlvStateMachine,

@@ -1,7 +1,7 @@
 -- The faults of reading a value: the number of each, which is that of its cause.
 use Rattle.std.specs.Prelude.{ℕ, List, ◌++◌, codes, decimal}
 use Rattle.streams.specs.Refusals.{read_number, read_text}
-use Rattle.values.specs.Refusals.{value_number, write_number, value_text}
+use Rattle.values.specs.Refusals.{value_number, write_number, value_text, write_text}
 use Rattle.reading.specs.declared.refusals.ValueFault.{ValueFault}
 use Rattle.reading.specs.declared.refusals.ValueFault.TheVariants.{Source, Value, ScratchTooShort}
 use Rattle.reading.specs.declared.round_trip.RoundTripFault.{RoundTripFault}
@@ -23,3 +23,7 @@ abbrev pub fault_text : ValueFault → List ℕ
 fault_text (Source e) = read_text e
 fault_text (Value e) = value_text e
 fault_text (ScratchTooShort needed) = codes "refused 21: the scratch is shorter than the value of " ++ (decimal needed ++ codes " bytes")
+
+abbrev pub trip_text : RoundTripFault → List ℕ
+trip_text (Write e) = write_text e
+trip_text (Read e) = fault_text e

@@ -18,6 +18,7 @@ pub fn pass_over<R: Source>(src: &mut R, n: usize) -> Result<Utf8, ReadRefusal>
     ensures { PassesText (R.ahead src.old) (R.ahead src.new) n result }
 {
     let mut seen = Utf8::Start;
+    // the source chooses how many bytes come at a time, and the refusal tells the count
     let mut taken = 0;
     while taken < n {
         let mut part = [0u8; 256];

@@ -2,6 +2,7 @@ ghost use Rattle.std.specs.Prelude.{◌≡◌, Some};
 ghost use Rattle.reading.specs.Refusals.{fault_number, fault_text};
 ghost use Rattle.reading.specs.declared.refusals.ValueFault.TheVariants.{Source as from_source, Value as from_value};
 
+use std::error::Error;
 use std::fmt;
 use streams::refusals::ReadRefusal;
 use values::refusals::ValueRefusal;
@@ -60,3 +61,5 @@ impl fmt::Display for ValueFault {
         }
     }
 }
+
+impl Error for ValueFault {}

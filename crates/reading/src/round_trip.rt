@@ -1,12 +1,14 @@
-ghost use Rattle.std.specs.Prelude.{◌≡◌};
+ghost use Rattle.std.specs.Prelude.{◌≡◌, Some};
 ghost use Rattle.ttlv.specs.Kinds.{ExtensionKeepsTheNumber};
-ghost use Rattle.reading.specs.Refusals.{trip_number};
+ghost use Rattle.reading.specs.Refusals.{trip_number, trip_text};
 ghost use Rattle.reading.specs.Trips.{RoundTrip, FixedTrip};
 ghost use Rattle.reading.specs.declared.round_trip.RoundTripFault.TheVariants.{Write as from_write, Read as from_read};
 
 use crate::fixed::read_fixed;
 use crate::read::read_value;
 use crate::refusals::ValueFault;
+use std::error::Error;
+use std::fmt;
 use streams::sink::Sink;
 use streams::sink_source::SinkSource;
 use values::refusals::WriteRefusal;
@@ -50,6 +52,19 @@ impl From<ValueFault> for RoundTripFault {
         RoundTripFault::Read(fault)
     }
 }
+
+impl fmt::Display for RoundTripFault {
+    ghost output = { λ e. Some (trip_text e) };
+
+    fn fmt<W: fmt::Write>(&self, f: &mut fmt::Formatter<W>) -> fmt::Result {
+        match self {
+            RoundTripFault::Write(cause) => write!(f, "{cause}"),
+            RoundTripFault::Read(cause) => write!(f, "{cause}"),
+        }
+    }
+}
+
+impl Error for RoundTripFault {}
 
 /// Writes a value to a sink, reads it back from there into a scratch, and answers its length. What comes back of a Big Integer is extended by its
 /// sign, and the same number.

@@ -29,4 +29,3 @@ returns-in_err-read_value_bytes g c =
     let l : length (take (c.args.len - 0) (replicate 8 0)) ≡ c.args.len = simp (length-take, length-replicate) (omega arith) in
     rw (p.1, p.2) (bytes_refused tt (printed (type_byte c.args.kind) (take c.args.len old)) c.args.kind (length (take (c.args.len - 0) (replicate 8 0))) c.args.len old (g.R.Source.ahead c.read_value_bytes.new.src)
     c.in_err-read_value_bytes.field-0.0 l c.in_err-read_value_bytes.ensures.reads)
-

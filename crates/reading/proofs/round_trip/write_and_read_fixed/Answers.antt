@@ -19,4 +19,3 @@ returns-in_err-read g c =
     let p = put_whole bytes old new w.writes in
     let a = item_ahead old new ahead (value_item bytes) c.count-at.result c.count-at.ensures p.after c.new.ensures in
     absurd (never v c.in_err-read.field-0.0 (fixed_back spelt.spelt v spelt.typed bytes ahead _ fixed.fixed _ laws.only laws.all (met.long v) (put_short bytes old new p) w.back a c.in_err-read.ensures))
-
