@@ -1,5 +1,5 @@
 -- Fields read through the state machine.
-use Rattle.std.specs.Prelude.{◌≡◌, ℕ, Bool, cond, List, length, take, drop, Ok, Err, Result, nat_lt}
+use Rattle.std.specs.Prelude.{◌≡◌, ℕ, Bool, cond, List, length, drop, Ok, Err, Result, nat_lt}
 use Rattle.streams.specs.declared.refusals.ReadRefusal.TheVariants.{Ended}
 use Rattle.fields.specs.declared.field_type.FieldType.{FieldType}
 use Rattle.fields.specs.declared.ttlv_type.TtlvType.{TtlvType}
