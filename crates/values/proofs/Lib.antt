@@ -1,5 +1,3 @@
 pub mod Putting
 pub mod Judging
 mod Textual
-mod Extending
-mod Making

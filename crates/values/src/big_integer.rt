@@ -35,6 +35,7 @@ impl SerializableTtlvType for TtlvBigInteger<'_> {
         self.0.len() + padding_of(self.0.len())
     }
 
+    #[tactic(auto, using(crate::proofs::Putting::puts_then, crate::proofs::Putting::front_of))]
     fn put_value<S: Sink>(&self, dst: &mut S) -> Result<(), PutRefusal> {
         if self.value_len() > dst.room() {
             return Err(PutRefusal::NoRoom);

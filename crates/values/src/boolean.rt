@@ -37,7 +37,6 @@ impl SerializableTtlvType for TtlvBoolean {
     }
 
     fn put_value<S: Sink>(&self, dst: &mut S) -> Result<(), PutRefusal> {
-        let number: u64 = if self.0 { 1 } else { 0 };
-        dst.put(&number.to_be_bytes())
+        dst.put(&u64::from(self.0).to_be_bytes())
     }
 }

@@ -8,6 +8,7 @@ pub mod fixed;
 pub mod integer;
 pub mod legal;
 pub mod long_integer;
+pub mod number;
 pub mod padding;
 pub mod refusals;
 pub mod spelt;

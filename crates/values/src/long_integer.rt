@@ -1,53 +1,47 @@
 ghost use Rattle.std.specs.Prelude.{◌≡◌};
 ghost use Rattle.std.specs.Int.{w64};
-ghost use Rattle.std.proofs.Common.{of_z, rules};
-ghost use Rattle.ttlv.specs.Numbers.{be};
+ghost use Rattle.std.proofs.Common.{of_z, to_z, rules};
+ghost use Rattle.std.proofs.Math.Path.{refl};
+ghost use Rattle.ttlv.specs.Numbers.{be, of_be};
 ghost use Rattle.fields.specs.declared.ttlv_type.TtlvType.TheVariants.{LongInteger as the_type_of};
+ghost use Rattle.values.specs.Legal.{good};
 
-use crate::fixed::FixedLengthTtlvType;
-use crate::value::SerializableTtlvType;
+use crate::number::{NumberTtlvType, front, padded};
 use fields::ttlv_type::TtlvType;
-use streams::refusals::PutRefusal;
-use streams::sink::Sink;
 
 /// A signed number of eight bytes.
 #[derive(Clone, Copy, PartialEq, Eq, Debug)]
 pub struct TtlvLongInteger(pub i64);
 
-impl SerializableTtlvType for TtlvLongInteger {
-    ghost kind = { λ _. the_type_of };
+impl NumberTtlvType for TtlvLongInteger {
+    ghost TYPE = { the_type_of };
 
-    ghost value = { λ v. be 8 (of_z w64 v.0) };
+    const TYPE: TtlvType = TtlvType::LongInteger;
 
-    fn ttlv_type(&self) -> TtlvType {
-        TtlvType::LongInteger
-    }
+    ghost WIDTH = { 8 };
 
-    fn value_len(&self) -> usize {
-        8
-    }
+    const WIDTH: u32 = 8;
 
-    fn put_value<S: Sink>(&self, dst: &mut S) -> Result<(), PutRefusal> {
-        dst.put(&self.0.to_be_bytes())
-    }
-}
+    ghost written = { λ v. be 8 (of_z w64 v.0) };
 
-impl FixedLengthTtlvType for TtlvLongInteger {
-    ghost fixed = { 8 };
+    ghost read = { λ bytes. record { 0 = to_z w64 (of_be bytes) } };
+
+    ghost some = { Prim.search rules };
 
     ghost short = { Prim.search rules };
 
     ghost long = { Prim.search rules };
 
-    fn fixed_len() -> u32 {
-        8
+    ghost only = { Prim.search rules };
+
+    ghost all = { unfold good in λ bytes. refl };
+
+    fn to_padded(&self) -> [u8; 8] {
+        padded(self.0.to_be_bytes())
     }
 
-    fn to_eight(&self) -> [u8; 8] {
-        self.0.to_be_bytes()
-    }
-
-    fn from_eight(bytes: [u8; 8]) -> TtlvLongInteger {
-        TtlvLongInteger(i64::from_be_bytes(bytes))
+    #[tactic(auto, using(ttlv::proofs::Reading::be_of_be))]
+    fn from_padded(bytes: [u8; 8]) -> TtlvLongInteger {
+        TtlvLongInteger(i64::from_be_bytes(front(bytes)))
     }
 }

@@ -1,21 +1,12 @@
 ghost use Rattle.std.specs.Prelude.{◌≡◌, ℕ, ◌-◌, ◌<◌, true, List, ◌++◌, take, replicate, ◌==◌};
-ghost use Rattle.std.specs.Int.{w32, w64};
-ghost use Rattle.std.proofs.Common.{to_z, rules};
-ghost use Rattle.std.proofs.Math.Path.{refl};
-ghost use Rattle.ttlv.specs.Numbers.{of_be};
 ghost use Rattle.ttlv.specs.Kinds.{fits, value_item};
 ghost use Rattle.fields.specs.declared.ttlv_type.TtlvType.{TtlvType};
-ghost use Rattle.fields.specs.declared.ttlv_type.TtlvType.TheVariants.{Integer as integer_type, LongInteger as long_integer_type, Enumeration as enumeration_type, DateTime as date_time_type};
 ghost use Rattle.fields.specs.Types.{type_byte};
 ghost use Rattle.values.specs.Legal.{good, MakesSpelt};
 ghost use Rattle.values.specs.Writing.{Written, write_answer};
 
-use crate::date_time::TtlvDateTime;
-use crate::enumeration::TtlvEnumeration;
 use crate::fixed::FixedLengthTtlvType;
-use crate::integer::TtlvInteger;
 use crate::legal::check_length;
-use crate::long_integer::TtlvLongInteger;
 use crate::refusals::{ValueRefusal, WriteRefusal};
 use fields::ttlv_type::TtlvType;
 use streams::sink::Sink;
@@ -49,104 +40,6 @@ pub trait SpeltTtlvType: FixedLengthTtlvType {
     ghost only: { (n : ℕ) → fits (type_byte typed) n ≡ (n == Self.FixedLengthTtlvType.fixed) };
 
     ghost all: { (bytes : List ℕ) → good (type_byte typed) bytes ≡ true };
-}
-
-impl SpeltTtlvType for TtlvInteger {
-    ghost typed = { integer_type };
-
-    ghost spelt = { λ bytes. record { 0 = to_z w32 (of_be bytes) } };
-
-    ghost some = { Prim.search rules };
-
-    ghost only = { Prim.search rules };
-
-    ghost all = { unfold good in λ bytes. refl };
-
-    fn fixed_type() -> TtlvType {
-        TtlvType::Integer
-    }
-
-    fn spell(&self) -> [u8; 8] {
-        TtlvInteger(self.0).to_eight()
-    }
-
-    fn from_spelt(bytes: [u8; 8]) -> TtlvInteger {
-        TtlvInteger::from_eight(bytes)
-    }
-}
-
-impl SpeltTtlvType for TtlvLongInteger {
-    ghost typed = { long_integer_type };
-
-    ghost spelt = { λ bytes. record { 0 = to_z w64 (of_be bytes) } };
-
-    ghost some = { Prim.search rules };
-
-    ghost only = { Prim.search rules };
-
-    ghost all = { unfold good in λ bytes. refl };
-
-    fn fixed_type() -> TtlvType {
-        TtlvType::LongInteger
-    }
-
-    fn spell(&self) -> [u8; 8] {
-        TtlvLongInteger(self.0).to_eight()
-    }
-
-    fn from_spelt(bytes: [u8; 8]) -> TtlvLongInteger {
-        TtlvLongInteger::from_eight(bytes)
-    }
-}
-
-impl SpeltTtlvType for TtlvEnumeration {
-    ghost typed = { enumeration_type };
-
-    ghost spelt = { λ bytes. record { 0 = of_be bytes } };
-
-    ghost some = { Prim.search rules };
-
-    ghost only = { Prim.search rules };
-
-    ghost all = { unfold good in λ bytes. refl };
-
-    fn fixed_type() -> TtlvType {
-        TtlvType::Enumeration
-    }
-
-    fn spell(&self) -> [u8; 8] {
-        // the bytes of the number, and not `to_eight`: they show that it is below 2 ^ 32
-        let b = self.0.to_be_bytes();
-        [b[0], b[1], b[2], b[3], 0, 0, 0, 0]
-    }
-
-    fn from_spelt(bytes: [u8; 8]) -> TtlvEnumeration {
-        TtlvEnumeration::from_eight(bytes)
-    }
-}
-
-impl SpeltTtlvType for TtlvDateTime {
-    ghost typed = { date_time_type };
-
-    ghost spelt = { λ bytes. record { 0 = to_z w64 (of_be bytes) } };
-
-    ghost some = { Prim.search rules };
-
-    ghost only = { Prim.search rules };
-
-    ghost all = { unfold good in λ bytes. refl };
-
-    fn fixed_type() -> TtlvType {
-        TtlvType::DateTime
-    }
-
-    fn spell(&self) -> [u8; 8] {
-        TtlvDateTime(self.0).to_eight()
-    }
-
-    fn from_spelt(bytes: [u8; 8]) -> TtlvDateTime {
-        TtlvDateTime::from_eight(bytes)
-    }
 }
 
 /// Writes a value of fixed length alone: its length, its bytes and its padding, all or nothing. The bytes spell this value and no other.

@@ -18,6 +18,7 @@ pub struct TtlvTextString<'a>(pub &'a str);
 
 impl<'a> TtlvTextString<'a> {
     /// Makes a text of its bytes.
+    #[tactic(auto, using(crate::proofs::Textual::text_to))]
     pub fn from_bytes(bytes: &'a [u8]) -> Result<TtlvTextString<'a>, ValueRefusal>
         ensures { Makes (λ v. v.0.now) text_string_type bytes.now result }
     {
@@ -54,6 +55,7 @@ impl SerializableTtlvType for TtlvTextString<'_> {
         TtlvType::TextString
     }
 
+    #[tactic(auto, using(crate::proofs::Textual::text_from))]
     fn value_len(&self) -> usize {
         self.0.as_bytes().len()
     }
