@@ -13,11 +13,13 @@ use streams::sink::Sink;
 #[derive(Clone, Copy, PartialEq, Eq, Debug)]
 pub struct TtlvBoolean(pub bool);
 
-impl TtlvBoolean {
-    /// Makes a Boolean of its bytes.
-    pub fn from_bytes(bytes: &[u8]) -> Result<TtlvBoolean, ValueRefusal>
-        ensures { Makes (λ v. truth_bytes v.0) boolean bytes.now result }
-    {
+/// Makes a Boolean of its bytes.
+impl TryFrom<&[u8]> for TtlvBoolean {
+    type Error = ValueRefusal;
+
+    ghost try_from_gives = { λ bytes r. Makes (λ v. truth_bytes v.0) boolean bytes.now r };
+
+    fn try_from(bytes: &[u8]) -> Result<TtlvBoolean, ValueRefusal> {
         check_value(TtlvType::Boolean, bytes)?;
         Ok(TtlvBoolean(bytes[7] == 1))
     }

@@ -3,6 +3,7 @@ ghost use Rattle.values.specs.Refusals.{write_number, value_number, write_text, 
 ghost use Rattle.values.specs.declared.refusals.WriteRefusal.TheVariants.{NoRoom};
 
 use fields::ttlv_type::TtlvType;
+use std::error::Error;
 use std::fmt;
 use streams::refusals::PutRefusal;
 
@@ -47,6 +48,8 @@ impl fmt::Display for WriteRefusal {
         }
     }
 }
+
+impl Error for WriteRefusal {}
 
 /// Why bytes are not a value of a kind.
 #[derive(Clone, Copy, PartialEq, Eq, Debug)]
@@ -95,3 +98,5 @@ impl fmt::Display for ValueRefusal {
         }
     }
 }
+
+impl Error for ValueRefusal {}

@@ -16,12 +16,14 @@ pub struct TtlvByteString<'a>(pub &'a [u8]);
 #[derive(Clone, Copy)]
 pub struct TtlvTextString<'a>(pub &'a str);
 
-impl<'a> TtlvTextString<'a> {
-    /// Makes a text of its bytes.
+/// Makes a text of its bytes.
+impl<'a> TryFrom<&'a [u8]> for TtlvTextString<'a> {
+    type Error = ValueRefusal;
+
+    ghost try_from_gives = { λ bytes r. Makes (λ v. v.0.now) text_string_type bytes.now r };
+
     #[tactic(auto, using(crate::proofs::Textual::text_to))]
-    pub fn from_bytes(bytes: &'a [u8]) -> Result<TtlvTextString<'a>, ValueRefusal>
-        ensures { Makes (λ v. v.0.now) text_string_type bytes.now result }
-    {
+    fn try_from(bytes: &'a [u8]) -> Result<TtlvTextString<'a>, ValueRefusal> {
         check_value(TtlvType::TextString, bytes)?;
         // the decision was made above
         Ok(TtlvTextString(unsafe { std::str::from_utf8_unchecked(bytes) }))

@@ -168,13 +168,13 @@ fn a_value_of_each_kind_is_made_of_its_bytes(rt: HostRuntime) -> Result<(), Fail
 #[test]
 fn no_value_is_made_of_other_bytes(rt: HostRuntime) {
     assert_eq!(rt;
-        TtlvBoolean::from_bytes(b"\x00\x00\x00\x00\x00\x00\x00\x02"),
+        TtlvBoolean::try_from(b"\x00\x00\x00\x00\x00\x00\x00\x02".as_slice()),
         Err(ValueRefusal::InvalidTtlvValue {
             kind: TtlvType::Boolean,
         })
     );
     assert_eq!(rt;
-        TtlvBoolean::from_bytes(b"\x00\x00\x00\x01"),
+        TtlvBoolean::try_from(b"\x00\x00\x00\x01".as_slice()),
         Err(ValueRefusal::InvalidTtlvValueLength {
             expected: 8,
             actual: 4,

@@ -39,14 +39,15 @@ impl<'a> TtlvValue<'a> {
             TtlvType::LongInteger => Ok(TtlvValue::LongInteger(make_fixed(bytes)?)),
             TtlvType::BigInteger => Ok(TtlvValue::BigInteger(TtlvBigInteger(bytes))),
             TtlvType::Enumeration => Ok(TtlvValue::Enumeration(make_fixed(bytes)?)),
-            TtlvType::Boolean => Ok(TtlvValue::Boolean(TtlvBoolean::from_bytes(bytes)?)),
-            TtlvType::TextString => Ok(TtlvValue::TextString(TtlvTextString::from_bytes(bytes)?)),
+            TtlvType::Boolean => Ok(TtlvValue::Boolean(TtlvBoolean::try_from(bytes)?)),
+            TtlvType::TextString => Ok(TtlvValue::TextString(TtlvTextString::try_from(bytes)?)),
             TtlvType::ByteString => Ok(TtlvValue::ByteString(TtlvByteString(bytes))),
             TtlvType::DateTime => Ok(TtlvValue::DateTime(make_fixed(bytes)?)),
         }
     }
 }
 
+// a match for each question: one of them is generic over sinks, so no `dyn` can ask it
 impl SerializableTtlvType for TtlvValue<'_> {
     ghost kind = { any_kind };
 
