@@ -32,6 +32,7 @@ impl FieldType {
     }
 }
 
+// as a type is shown; the library's trait takes no impl for all that have a name
 impl fmt::Display for FieldType {
     ghost output = { λ f. Some (field_name f) };
 

@@ -82,7 +82,7 @@ pub fn write_and_read_back<V: SerializableTtlvType, S: Sink>(
     Ok(len)
 }
 
-/// Writes a value of fixed length to a sink, and reads it back from there: it is that value.
+/// Writes a value of fixed length to a sink, and reads it back from there: it is that value, where `write_and_read_back` answers a length.
 pub fn write_and_read_fixed<V: SpeltTtlvType, S: Sink>(
     v: &V,
     dst: &mut S,

@@ -8,11 +8,11 @@ pub trait Sink {
     /// The bytes held, the room left, and the memory that they stand in.
     ghost store: { Self → Store };
 
-    /// Appends all of `bytes`, or refuses.
+    /// Appends all of `bytes`, or refuses: each sink asks its room first, since what follows differs by its memory.
     fn put(&mut self, bytes: &[u8]) -> Result<(), PutRefusal>
         ensures { Puts (store self.old) (store self.new) bytes.now result };
 
-    /// Overwrites the bytes held from `at` on, or refuses.
+    /// Overwrites the bytes held from `at` on, or refuses. Place and bytes are a call, and no value of their own.
     fn patch(&mut self, at: usize, bytes: &[u8]) -> Result<(), PlaceRefusal>
         ensures { Patches (store self.old) (store self.new) at bytes.now result };
 
