@@ -1,16 +1,18 @@
 -- What was written is read back.
-use Rattle.std.proofs.Common.{◌≡◌, ℕ, ◌+◌, ◌-◌, ◌^◌, ◌<◌, ◌≤◌, min, true, ◌⊎◌, List, ◌++◌, length, take, drop, replicate, sym, refl, ap, ◌∙◌, inl, inr, arith}
+use Rattle.std.proofs.Common.{◌≡◌, ℕ, ◌+◌, ◌-◌, ◌^◌, ◌<◌, ◌≤◌, min, true, ◌⊎◌, List, leb, Ok, ◌++◌, length, take, drop, replicate, sym, refl, ap, ◌∙◌, inl, inr, arith}
 use Rattle.std.proofs.lemmas.List.{length-append, take_at, append_assoc, append-nil, take_all, drop_all, take-append-drop, drop-append-le, length-take-le}
 use Rattle.std.proofs.lemmas.Bool.{le-leb, cases_lt}
 use Rattle.ttlv.specs.Numbers.{padding}
 use Rattle.ttlv.specs.Kinds.{Legal, value_item, fits}
 use Rattle.ttlv.proofs.Reading.{of_be_be}
+use Rattle.fields.specs.declared.ttlv_type.TtlvType.{TtlvType}
 use Rattle.values.specs.Legal.{good}
 use Rattle.values.proofs.Judging.{decides_good}
 use Rattle.values.proofs.Putting.{length_value_item}
 use Rattle.reading.specs.Stages.{told_length, told_value}
 use Rattle.reading.specs.Reads.{ReadBack, ReadsBackWhatIsWritten}
-use Rattle.reading.proofs.Staged.{stage_6}
+use Rattle.reading.specs.Parts.{ReadsLength}
+use Rattle.reading.proofs.Staged.{stage_6, Lengthed, lengthed}
 
 pub legal_good : (type : ℕ) (bytes : List ℕ) → Legal type bytes → good type bytes ≡ true
 legal_good type bytes l = (decides_good type bytes).1 record { truth = l.truth; text = l.text }
@@ -58,7 +60,7 @@ scratch_at mid scratch n l (inr h) =
     ap (λ t. (take n mid ++ t) ++ drop n scratch) (drop_all (length mid) (take n scratch) (omega arith))
     ∙ ap (λ t. t ++ drop n scratch) (append-nil (take n mid)) ∙ ap (λ k. take k mid ++ drop k scratch) (sym e)
 
-pub scratch_front : (old mid scratch part part' : List ℕ) (n k : ℕ) → mid ≡ drop 4 old → n ≤ length scratch → part ≡ take (n - 0) scratch → part' ≡ take (length part) mid ++ drop (length mid) part
+scratch_front : (old mid scratch part part' : List ℕ) (n k : ℕ) → mid ≡ drop 4 old → n ≤ length scratch → part ≡ take (n - 0) scratch → part' ≡ take (length part) mid ++ drop (length mid) part
     → k ≡ min n (length mid) → part' ++ drop (n - 0) scratch ≡ take k (drop 4 old) ++ drop k scratch
 scratch_front old mid scratch part part' n k m l p q e =
     let z : n - 0 ≡ n = omega arith in
@@ -68,3 +70,22 @@ scratch_front old mid scratch part part' n k m l p q e =
     ∙ ap (λ j. (take n mid ++ drop (length mid) (take n scratch)) ++ drop j scratch) z
     ∙ scratch_at mid scratch n l (cases_lt (length mid) n)
     ∙ ap (λ j. take j mid ++ drop j scratch) (sym e) ∙ ap (λ a. take k a ++ drop k scratch) m
+
+-- A value of n bytes has its place at the front of a scratch.
+pub record Placed (kind : TtlvType) (old mid scratch : List ℕ) (n : ℕ) : Type 0 where
+  pub told : Lengthed kind old mid n
+  pub holds : leb (told_length old) (length scratch) ≡ true
+  pub part : length (take (n - 0) scratch) ≡ n
+  pub filled : (part' : List ℕ) → part' ≡ take (length (take (n - 0) scratch)) mid ++ drop (length mid) (take (n - 0) scratch)
+      → part' ++ drop (n - 0) scratch ≡ take (min n (length mid)) (drop 4 old) ++ drop (min n (length mid)) scratch
+
+pub placed : (kind : TtlvType) (old mid scratch : List ℕ) (n : ℕ) → ReadsLength kind old mid (Ok n) → n ≤ length scratch → Placed kind old mid scratch n
+placed kind old mid scratch n r h =
+    let l = lengthed kind old mid n r in
+    let z : n - 0 ≡ n = omega arith in
+    record {
+      told = l;
+      holds = le-leb (told_length old) (length scratch) (omega (arith, l.told));
+      part = ap (λ j. length (take j scratch)) z ∙ length-take-le n scratch h;
+      filled = λ part' e. scratch_front old mid scratch (take (n - 0) scratch) part' n (min n (length mid)) l.left h refl e refl;
+    }

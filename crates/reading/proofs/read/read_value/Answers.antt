@@ -1,11 +1,10 @@
-use Rattle.std.proofs.Common.{◌≡◌, ◌-◌, min, true, false, leb, length, take, refl, ap, ◌∙◌, arith}
-use Rattle.std.proofs.lemmas.List.{length-take-le}
+use Rattle.std.proofs.Common.{◌≡◌, ◌-◌, min, false, leb, length, take, refl, arith}
 use Rattle.std.proofs.lemmas.Result.{err_from_is_err_and}
-use Rattle.std.proofs.lemmas.Bool.{le-leb, lt-leb}
+use Rattle.std.proofs.lemmas.Bool.{lt-leb}
 use Rattle.reading.specs.Stages.{told_length}
 use Rattle.reading.proofs.Parted.{bytes_refused, bytes_whole}
 use Rattle.reading.proofs.Staged.{length_refused, lengthed, no_place, value_refused, padding_refused, value_whole, reads_value}
-use Rattle.reading.proofs.Back.{reads_back, scratch_front}
+use Rattle.reading.proofs.Back.{reads_back, placed}
 use Rattle.reading.proofs.read.read_value.Goals as goal
 
 pub returns-in_err-len : goal.returns-in_err-len
@@ -40,15 +39,12 @@ returns-in_err-read_value_bytes g c =
     let mid = g.R.Source.ahead c.read_value_length.new.src in
     let new = g.R.Source.ahead c.read_value_bytes.new.src in
     let scratch = c.args.scratch.now in
-    let l = lengthed c.args.kind old mid n c.in_ok-len.ensures in
-    let h : leb (told_length old) (length scratch) ≡ true = le-leb (told_length old) (length scratch) (omega (arith, l.told)) in
-    let z : n - 0 ≡ n = omega arith in
-    let t : length (take (n - 0) scratch) ≡ n = ap (λ j. length (take j scratch)) z ∙ length-take-le n scratch (omega arith) in
+    let place = placed c.args.kind old mid scratch n c.in_ok-len.ensures (omega arith) in
     record {
       reads = rw (p.1, p.2) (reads_value c.args.kind old new scratch _ _ (min n (length mid))
-          (value_refused (told_length old) (tt {0}) c.args.kind old mid new n c.in_err-read_value_bytes.field-0.0 (leb (told_length old) (length scratch)) l h
-          (bytes_refused (tt {0}) (tt {0}) c.args.kind (length (take (n - 0) scratch)) n mid new c.in_err-read_value_bytes.field-0.0 t c.in_err-read_value_bytes.ensures.reads))
-          (scratch_front old mid scratch (take (n - 0) scratch) c.read_value_bytes.new.value n (min n (length mid)) l.left (omega arith) refl c.in_err-read_value_bytes.ensures.filled refl));
+          (value_refused (told_length old) (tt {0}) c.args.kind old mid new n c.in_err-read_value_bytes.field-0.0 (leb (told_length old) (length scratch)) place.told place.holds
+          (bytes_refused (tt {0}) (tt {0}) c.args.kind (length (take (n - 0) scratch)) n mid new c.in_err-read_value_bytes.field-0.0 place.part c.in_err-read_value_bytes.ensures.reads))
+          (place.filled c.read_value_bytes.new.value c.in_err-read_value_bytes.ensures.filled));
       law = reads_back;
     }
 
@@ -61,15 +57,12 @@ returns-in_err-pass_padding g c =
     let next = g.R.Source.ahead c.read_value_bytes.new.src in
     let new = g.R.Source.ahead c.pass_padding.new.src in
     let scratch = c.args.scratch.now in
-    let l = lengthed c.args.kind old mid n c.in_ok-len.ensures in
-    let h : leb (told_length old) (length scratch) ≡ true = le-leb (told_length old) (length scratch) (omega (arith, l.told)) in
-    let z : n - 0 ≡ n = omega arith in
-    let t : length (take (n - 0) scratch) ≡ n = ap (λ j. length (take j scratch)) z ∙ length-take-le n scratch (omega arith) in
+    let place = placed c.args.kind old mid scratch n c.in_ok-len.ensures (omega arith) in
     record {
       reads = rw (p.1, p.2) (reads_value c.args.kind old new scratch _ _ (min n (length mid))
-          (padding_refused (told_length old) c.args.kind old mid next new n c.in_err-pass_padding.field-0.0 (leb (told_length old) (length scratch)) l h
-          (bytes_whole tt c.in_ok-read_value_bytes.field-0 c.args.kind (length (take (n - 0) scratch)) n mid next t c.in_ok-read_value_bytes.ensures.reads) c.in_err-pass_padding.ensures)
-          (scratch_front old mid scratch (take (n - 0) scratch) c.read_value_bytes.new.value n (min n (length mid)) l.left (omega arith) refl c.in_ok-read_value_bytes.ensures.filled refl));
+          (padding_refused (told_length old) c.args.kind old mid next new n c.in_err-pass_padding.field-0.0 (leb (told_length old) (length scratch)) place.told place.holds
+          (bytes_whole tt c.in_ok-read_value_bytes.field-0 c.args.kind (length (take (n - 0) scratch)) n mid next place.part c.in_ok-read_value_bytes.ensures.reads) c.in_err-pass_padding.ensures)
+          (place.filled c.read_value_bytes.new.value c.in_ok-read_value_bytes.ensures.filled));
       law = reads_back;
     }
 
@@ -81,14 +74,11 @@ returns g c =
     let next = g.R.Source.ahead c.read_value_bytes.new.src in
     let new = g.R.Source.ahead c.pass_padding.new.src in
     let scratch = c.args.scratch.now in
-    let l = lengthed c.args.kind old mid n c.in_ok-len.ensures in
-    let h : leb (told_length old) (length scratch) ≡ true = le-leb (told_length old) (length scratch) (omega (arith, l.told)) in
-    let z : n - 0 ≡ n = omega arith in
-    let t : length (take (n - 0) scratch) ≡ n = ap (λ j. length (take j scratch)) z ∙ length-take-le n scratch (omega arith) in
+    let place = placed c.args.kind old mid scratch n c.in_ok-len.ensures (omega arith) in
     record {
       reads = reads_value c.args.kind old new scratch _ _ (min n (length mid))
-          (value_whole (told_length old) n c.args.kind old mid next new n (leb (told_length old) (length scratch)) l h
-          (bytes_whole tt c.in_ok-read_value_bytes.field-0 c.args.kind (length (take (n - 0) scratch)) n mid next t c.in_ok-read_value_bytes.ensures.reads) c.in_ok-pass_padding.ensures l.told)
-          (scratch_front old mid scratch (take (n - 0) scratch) c.read_value_bytes.new.value n (min n (length mid)) l.left (omega arith) refl c.in_ok-read_value_bytes.ensures.filled refl);
+          (value_whole (told_length old) n c.args.kind old mid next new n (leb (told_length old) (length scratch)) place.told place.holds
+          (bytes_whole tt c.in_ok-read_value_bytes.field-0 c.args.kind (length (take (n - 0) scratch)) n mid next place.part c.in_ok-read_value_bytes.ensures.reads) c.in_ok-pass_padding.ensures place.told.told)
+          (place.filled c.read_value_bytes.new.value c.in_ok-read_value_bytes.ensures.filled);
       law = reads_back;
     }
