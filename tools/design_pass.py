@@ -15,7 +15,7 @@ COMMIT = next((a for a in sys.argv[1:] if a != "-v"), None)
 
 LINES = {
     "1 own Option or Result, flags, numbers for refusals": r"\bbool\b(?!\))|\bgood\b|match .*\.number\(\)|_ => return|unreachable\(",
-    "3 loops that count by hand": r"\bwhile\b|\bloop\b|\.enumerate\(\)|for [a-z]+ in \w+\.\.",
+    "3 loops that count by hand": r"\bwhile\b|\bloop\b|\.enumerate\(\)",
     "4 equality, conversion, printing by hand": r"fn (from_bytes?|to_bytes|byte|unknown|is_unknown|is_whole)\(|"
     r"_be_bytes\(\[\*|\{ 1 \} else \{ 0 \}|Ok\(x\) => Ok\(x\)|Err\(_\) => Err\(|\(Some\(h\), Some\(l\)\)|"
     r"impl.* (PartialEq|Eq|PartialOrd|Ord|Clone|Copy|Hash|Default|Debug) for",
@@ -51,11 +51,15 @@ def functions(text):
     """Each function of a file: its name, its parameters, its clauses, its body."""
     for m in re.finditer(r"^( *)(?:pub )?fn (\w+)(?:<[^(]*>)?\(([^)]*)\)", text, re.M):
         indent, rest = m.group(1), text[m.end():]
-        end = re.search(rf"^{indent}\}}$|^[^{{}}\n]*;$", rest, re.M)
-        part = rest[: end.end()] if end else rest
-        clauses = re.findall(r"^\s*(?:requires|ensures) ?\w* \{(.*)\}", part, re.M)
-        body = re.search(rf"(?:^{indent}\{{| \{{)$(.*)", part, re.M | re.S)
-        yield m.group(2), m.group(3), clauses, body.group(1) if body else ""
+        start = re.search(rf"^{indent}\{{$|^[^\n]* \{{$|;$", rest, re.M)
+        if not start:
+            continue
+        head, body = rest[: start.end()], ""
+        if not start.group().endswith(";"):
+            end = re.search(rf"^{indent}\}}$", rest[start.end():], re.M)
+            body = rest[start.end(): start.end() + end.start()]
+        clauses = re.findall(r"^\s*(?:requires|ensures) ?\w* \{(.*)\}", head, re.M)
+        yield m.group(2), m.group(3), clauses, body
 
 
 def shape(body):
@@ -75,7 +79,7 @@ for title, pattern in LINES.items():
         f"{n}:{i}: {line.strip()}"
         for n, t in source
         for i, line in enumerate(t.splitlines(), 1)
-        if re.search(pattern, line) and not line.lstrip().startswith(("//", "ghost", "ensures", '"'))
+        if re.search(pattern, line) and not line.lstrip().startswith(("//", "#[", "ghost", "ensures", '"'))
     ]
 
 shapes, pairs, terms = {}, {}, {}
