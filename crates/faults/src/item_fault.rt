@@ -47,6 +47,7 @@ impl ItemFault {
     }
 }
 
+// one for each case, by hand: clauses name the case that `?` makes
 impl From<ReadRefusal> for ItemFault {
     ghost from_gives = { λ e r. r ≡ from_source e };
 

@@ -14,6 +14,7 @@ pub enum TypeRefusal {
     Invalid(u8),
 }
 
+// each enum has its own table of numbers and texts, as the definitions have
 impl TypeRefusal {
     /// The number under which the refusal is told.
     pub fn number(&self) -> u8

@@ -16,7 +16,7 @@ pub enum TtlvStateMachineMode {
 pub struct TtlvStateMachine {
     mode: TtlvStateMachineMode,
     expected_next_field_type: FieldType,
-    // told by itself: it holds whatever field is expected
+    // a rule of the machine: its table asks the flag beside mode and field
     ignore_next_tag: bool,
 }
 
@@ -32,7 +32,8 @@ impl TtlvStateMachine {
         }
     }
 
-    /// Takes the next field. False says that the field is not to be written, since it is ignored: the machine answers no more than this.
+    // true and false are a rule of the machine too
+    /// Takes the next field. False says that the field is not to be written, since it is ignored.
     pub fn advance(&mut self, next_field_type: FieldType) -> Result<bool, AdvanceRefusal>
         ensures answer { result ≡ (advanced self.old next_field_type).0 }
         ensures state { self.new ≡ (advanced self.old next_field_type).1 }

@@ -1,7 +1,8 @@
 ghost use Rattle.std.specs.Prelude.{◌≡◌};
 ghost use Rattle.ttlv.specs.Numbers.{be, of_be};
 
-/// The length of an item's value: a number with its highest byte first as a tag is, and no tag.
+// beside `TtlvTag`: one type with a const parameter for both would take a length for a tag
+/// The length of an item's value.
 #[derive(Clone, Copy, PartialEq, Eq, Debug)]
 pub struct TtlvLength(u32);
 
@@ -17,8 +18,7 @@ impl TtlvLength {
     pub fn value(&self) -> u32
         ensures { result ≡ self.now.0 }
     {
-        let TtlvLength(value) = *self;
-        value
+        self.0
     }
 }
 

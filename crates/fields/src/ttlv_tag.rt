@@ -9,6 +9,7 @@ use std::fmt;
 #[derive(Clone, Copy, PartialEq, Eq, Debug)]
 pub struct TtlvTag(u32);
 
+// `new` and `value` name what they take and give; the bytes are conversions
 impl TtlvTag {
     /// The tag of a number.
     pub fn new(value: u32) -> TtlvTag

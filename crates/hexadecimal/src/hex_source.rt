@@ -11,7 +11,7 @@ use streams::source::Source;
 #[derive(Drop)]
 pub struct HexSource<S> {
     below: S,
-    // beside the source, which the layer gives back after its end too
+    // beside the source, and no enum of the two: the layer gives the source back whether it has ended or not, and its meaning needs both
     ended: bool,
 }
 
@@ -50,6 +50,7 @@ impl<S: Source> HexSource<S> {
             return None;
         };
         match pair_value(pair[0], pair[1]) {
+            // a way for each: the proof of what was taken did not close where the ways are joined
             Some(b) => Some(b),
             None => {
                 self.ended = true;
@@ -68,6 +69,7 @@ impl<S: Source> Source for HexSource<S> {
         ensures most { result ≡ min (length buf.old) (length (hex_ahead self.old.ended (S.Source.ahead self.old.below))) }
         ensures takes { record { ended = self.new.ended; text = S.Source.ahead self.new.below } ≡ hex_asked (length buf.old) self.old.ended (S.Source.ahead self.old.below) }
     {
+        // by place, as a sink's source goes
         for i in 0..buf.len() {
             let Some(b) = self.next_byte() else {
                 return i;

@@ -13,7 +13,8 @@ use fields::ttlv_type::TtlvType;
 use streams::exact::read_exact;
 use streams::source::Source;
 
-/// Reads the bytes of a field, if the state machine expects it. Source and machine are the caller's, each with a life of its own.
+// a struct of source and machine would be made for each header, and its clauses would name both
+/// Reads the bytes of a field, if the state machine expects it.
 fn read_bytes<const N: usize, R: Source>(
     src: &mut R,
     state: &mut TtlvStateMachine,

@@ -34,8 +34,7 @@ impl Item {
         ensures { result ≡ item_tag self.now }
     {
         match self {
-            Item::Structure { tag, .. } => *tag,
-            Item::Value { tag, .. } => *tag,
+            Item::Structure { tag, .. } | Item::Value { tag, .. } => *tag,
         }
     }
 
@@ -54,7 +53,7 @@ impl Item {
 fn read_content<R: Source>(src: &mut R, tag: TtlvTag, kind: TtlvType) -> Result<Item, ItemFault>
     ensures { ReadsContent tag kind (R.ahead src.old) (R.ahead src.new) result }
 {
-    if let TtlvType::Structure = kind {
+    if kind == TtlvType::Structure {
         let length = read_value_length(src, kind)?;
         return Ok(Item::Structure { tag, length });
     }

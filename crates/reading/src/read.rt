@@ -24,8 +24,8 @@ pub fn read_value<R: Source>(
     Ok(len)
 }
 
-/// Reads a value of a kind and of any length without keeping it, and answers what is printed of it. The three parts are those of `read_value`; what is
-/// done with the second differs, and so does what is refused before it.
+// the parts are those of `read_value`; what is done with the second differs, and so does what is refused before it
+/// Reads a value of a kind and of any length without keeping it, and answers what is printed of it.
 pub fn pass_value<R: Source>(src: &mut R, kind: TtlvType) -> Result<Option<u32>, ValueFault>
     ensures { PassesValue kind (R.ahead src.old) (R.ahead src.new) result }
 {

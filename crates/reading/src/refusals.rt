@@ -31,6 +31,7 @@ impl ValueFault {
     }
 }
 
+// one for each case, by hand: clauses name the case that `?` makes
 impl From<ReadRefusal> for ValueFault {
     ghost from_gives = { λ e r. r ≡ from_source e };
 

@@ -82,7 +82,8 @@ pub fn write_and_read_back<V: SerializableTtlvType, S: Sink>(
     Ok(len)
 }
 
-/// Writes a value of fixed length to a sink, and reads it back from there: it is that value, where `write_and_read_back` answers a length.
+// `write_and_read_back` answers a length and fills a scratch; the two calls that both make are all they share
+/// Writes a value of fixed length to a sink, and reads it back from there: it is that value.
 pub fn write_and_read_fixed<V: SpeltTtlvType, S: Sink>(
     v: &V,
     dst: &mut S,

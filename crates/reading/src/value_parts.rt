@@ -11,7 +11,8 @@ use streams::source::Source;
 use values::legal::{check_length, check_value};
 use values::padding::padding_of;
 
-/// Reads the length of a value, and refuses one that no value of the kind has. The source outlives each value that is read from it.
+// the source outlives each value that is read from it, so source and kind are no struct
+/// Reads the length of a value, and refuses one that no value of the kind has.
 pub fn read_value_length<R: Source>(src: &mut R, kind: TtlvType) -> Result<usize, ValueFault>
     ensures { ReadsLength kind (R.ahead src.old) (R.ahead src.new) result }
 {

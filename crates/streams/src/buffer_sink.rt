@@ -7,8 +7,8 @@ use crate::sink::{Sink, overwrite};
 /// The caller's buffer, filled from its front.
 #[derive(Drop)]
 pub struct BufferSink<'a> {
+    // the caller's memory and how much of its front is held, and no `Vec`: programs without a heap use it
     buf: &'a mut [u8],
-    // the caller's memory, for programs that have no heap
     len: usize,
     ghost within: { len ≤ length buf.now },
 }

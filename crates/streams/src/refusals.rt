@@ -12,7 +12,7 @@ pub enum ReadRefusal {
 }
 
 impl ReadRefusal {
-    /// The number under which the refusal is told: each enum has a table of its own.
+    /// The number under which the refusal is told.
     pub fn number(&self) -> u8
         ensures { result ≡ read_number self.now }
     {

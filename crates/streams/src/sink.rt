@@ -8,11 +8,12 @@ pub trait Sink {
     /// The bytes held, the room left, and the memory that they stand in.
     ghost store: { Self → Store };
 
-    /// Appends all of `bytes`, or refuses: each sink asks its room first, since what follows differs by its memory.
+    /// Appends all of `bytes`, or refuses.
     fn put(&mut self, bytes: &[u8]) -> Result<(), PutRefusal>
         ensures { Puts (store self.old) (store self.new) bytes.now result };
 
-    /// Overwrites the bytes held from `at` on, or refuses. Place and bytes are a call, and no value of their own.
+    // `at` and `bytes` are what the call says, so they are no struct
+    /// Overwrites the bytes held from `at` on, or refuses.
     fn patch(&mut self, at: usize, bytes: &[u8]) -> Result<(), PlaceRefusal>
         ensures { Patches (store self.old) (store self.new) at bytes.now result };
 
@@ -29,7 +30,7 @@ pub trait Sink {
         ensures { result ≡ (store self.now).memory.room };
 }
 
-/// Whether `len` bytes from `at` on reach past the first `count`: a question that layers ask of places they cannot lend as a slice.
+/// Whether `len` bytes from `at` on reach past the first `count`.
 pub fn reaches_past(at: usize, len: usize, count: usize) -> bool
     ensures { result ≡ nat_lt count (at + len) }
 {

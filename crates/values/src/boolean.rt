@@ -13,7 +13,7 @@ use streams::sink::Sink;
 #[derive(Clone, Copy, PartialEq, Eq, Debug)]
 pub struct TtlvBoolean(pub bool);
 
-/// Makes a Boolean of its bytes: the check of its kind, then its own value.
+/// Makes a Boolean of its bytes.
 impl TryFrom<&[u8]> for TtlvBoolean {
     type Error = ValueRefusal;
 

@@ -20,7 +20,8 @@ fn fixed_length(kind: TtlvType) -> Option<u32>
     }
 }
 
-/// Refuses a length that no value of the kind has. Kind and length together are what the refusal tells.
+// kind and length are what is asked; put together they are what the refusal tells
+/// Refuses a length that no value of the kind has.
 pub fn check_length(kind: TtlvType, len: usize) -> Result<(), ValueRefusal>
     ensures { result ≡ length_judged kind len }
 {

@@ -11,6 +11,7 @@ use fields::ttlv_type::TtlvType;
 use streams::refusals::PutRefusal;
 use streams::sink::Sink;
 
+// each kind states itself by an impl of its own: no macro writes ghost items, and an alias of one generic struct would make no value, as `TtlvInteger(8)` does
 /// A kind whose values are numbers of a fixed length, of one to eight bytes, each row of that many bytes spelling one value.
 pub trait NumberTtlvType: Sized {
     /// The type of every value.
@@ -112,6 +113,7 @@ impl<V: NumberTtlvType> FixedLengthTtlvType for V {
     }
 }
 
+// both interfaces ask for the same bytes, each in its own words
 impl<V: NumberTtlvType> SpeltTtlvType for V {
     ghost typed = { V.TYPE };
 

@@ -28,7 +28,8 @@ pub enum TtlvValue<'a> {
 }
 
 impl<'a> TtlvValue<'a> {
-    /// Makes a value of a kind of its bytes: of two things, so it is no conversion.
+    // of a kind and bytes: two things, so no conversion
+    /// Makes a value of a kind of its bytes.
     #[tactic(auto, unfolding(crate::specs::Legal::good))]
     pub fn from_bytes(kind: TtlvType, bytes: &'a [u8]) -> Result<TtlvValue<'a>, ValueRefusal>
         ensures { MakesAny kind bytes.now result }

@@ -10,7 +10,8 @@ use streams::sink::Sink;
 /// The most bytes that a message has.
 pub const MESSAGE_LIMIT: usize = 16_777_216;
 
-/// Writes a value alone, to a sink that outlives it: its length, its bytes, which are legal by the table of kinds, and its padding, all or nothing.
+// the sink outlives the value, so the two are no struct
+/// Writes a value alone: its length, its bytes, which are legal by the table of kinds, and its padding, all or nothing.
 pub fn write_value<V: SerializableTtlvType, S: Sink>(v: &V, dst: &mut S) -> Result<(), WriteRefusal>
     ensures writes { Written (write_answer result) (S.store dst.old) (S.store dst.new) (value_item (V.value v.now)) }
     ensures legal { Legal (type_byte (V.kind v.now)) (V.value v.now) }

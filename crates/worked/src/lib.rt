@@ -2,8 +2,8 @@
 
 ghost use Rattle.worked.specs.Examples.{WorkedExamples};
 
-/// The worked examples of the format hold of its definitions; it does nothing. Those that need no code hold in crate `ttlv` too, so that a wrong
-/// definition is refused there.
+// those that need no code hold in crate `ttlv` too, so that a wrong definition is refused there
+/// The worked examples of the format hold of its definitions; it does nothing.
 pub fn worked_examples_hold()
     ensures { WorkedExamples }
 {}
