@@ -6,6 +6,7 @@ ghost use Rattle.ttlv.specs.Numbers.{be, of_be};
 #[derive(Clone, Copy, PartialEq, Eq, Debug)]
 pub struct TtlvLength(u32);
 
+// `new` and `value` name what they take and give; the bytes are conversions
 impl TtlvLength {
     /// A length of so many bytes.
     pub fn new(value: u32) -> TtlvLength

@@ -60,9 +60,11 @@ impl<S: Source> HexSource<S> {
     }
 }
 
+// its meaning is told of its fields, and by no model: a model would forget the source below
 impl<S: Source> Source for HexSource<S> {
     ghost ahead = { λ s. hex_ahead s.ended (S.Source.ahead s.below) };
 
+    // two facts of a line each: what is handed out, and how much
     /// Hands out as many bytes as fit.
     fn read(&mut self, buf: &mut [u8]) -> usize
         ensures hands { Handed (hex_ahead self.old.ended (S.Source.ahead self.old.below)) (hex_ahead self.new.ended (S.Source.ahead self.new.below)) buf.old buf.new result }

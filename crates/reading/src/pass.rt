@@ -34,6 +34,7 @@ pub fn pass_over<R: Source>(src: &mut R, n: usize) -> Result<Utf8, ReadRefusal>
     Ok(seen)
 }
 
+// kind and bytes are what is asked
 /// The number of an Enumeration.
 fn number_of(kind: TtlvType, bytes: &[u8]) -> Option<u32>
     ensures { fits (type_byte kind) (length bytes.now) ≡ true → result ≡ printed (type_byte kind) bytes.now }

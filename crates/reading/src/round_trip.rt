@@ -66,6 +66,7 @@ impl fmt::Display for RoundTripFault {
 
 impl Error for RoundTripFault {}
 
+// a value and where it goes are no struct: to put them together is the call
 /// Writes a value to a sink, reads it back from there into a scratch, and answers its length. What comes back of a Big Integer is extended by its
 /// sign, and the same number.
 pub fn write_and_read_back<V: SerializableTtlvType, S: Sink>(
@@ -82,7 +83,7 @@ pub fn write_and_read_back<V: SerializableTtlvType, S: Sink>(
     Ok(len)
 }
 
-// `write_and_read_back` answers a length and fills a scratch; the two calls that both make are all they share
+// value and sink likewise; `write_and_read_back` answers a length and fills a scratch, and the two calls that both make are all they share
 /// Writes a value of fixed length to a sink, and reads it back from there: it is that value.
 pub fn write_and_read_fixed<V: SpeltTtlvType, S: Sink>(
     v: &V,

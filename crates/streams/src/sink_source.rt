@@ -32,6 +32,7 @@ impl<'a, S: Sink> SinkSource<'a, S> {
 impl<S: Sink> Source for SinkSource<'_, S> {
     ghost ahead = { λ s. s };
 
+    // two facts of a line each: what is handed out, and how much
     /// Hands out as many bytes as fit.
     fn read(&mut self, buf: &mut [u8]) -> usize
         ensures hands { Handed self.old self.new buf.old buf.new result }

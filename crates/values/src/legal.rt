@@ -45,6 +45,7 @@ fn is_truth(bytes: &[u8]) -> bool
         .is_some_and(|eight| u64::from_be_bytes(*eight) <= 1)
 }
 
+// kind and bytes are what is asked; put together they are a value
 /// Refuses bytes that are no value of the kind: for their length first, then for what they are.
 #[tactic(auto, using(crate::proofs::Judging::decides_good), unfolding(crate::specs::Legal::good))]
 pub fn check_value(kind: TtlvType, bytes: &[u8]) -> Result<(), ValueRefusal>

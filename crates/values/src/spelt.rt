@@ -42,6 +42,7 @@ pub trait SpeltTtlvType: FixedLengthTtlvType {
     ghost all: { (bytes : List ℕ) → good (type_byte typed) bytes ≡ true };
 }
 
+// a value and where it goes are no struct: to put them together is the call
 /// Writes a value of fixed length alone: its length, its bytes and its padding, all or nothing. The bytes spell this value and no other.
 pub fn write_fixed<V: SpeltTtlvType, S: Sink>(v: &V, dst: &mut S) -> Result<(), WriteRefusal>
     ensures writes { Written (write_answer result) (S.store dst.old) (S.store dst.new) (value_item (V.SerializableTtlvType.value v.now)) }

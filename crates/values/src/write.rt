@@ -10,7 +10,7 @@ use streams::sink::Sink;
 /// The most bytes that a message has.
 pub const MESSAGE_LIMIT: usize = 16_777_216;
 
-// the sink outlives the value, so the two are no struct
+// a value and where it goes are no struct: to put them together is the call
 /// Writes a value alone: its length, its bytes, which are legal by the table of kinds, and its padding, all or nothing.
 pub fn write_value<V: SerializableTtlvType, S: Sink>(v: &V, dst: &mut S) -> Result<(), WriteRefusal>
     ensures writes { Written (write_answer result) (S.store dst.old) (S.store dst.new) (value_item (V.value v.now)) }
