@@ -70,8 +70,9 @@ def shape(body):
     return re.sub(r"\s+", " ", body).strip()
 
 
-source = [(n, t) for n, t in files() if "/src/" in n]
-proofs = [(n, t) for n, t in files() if "/proofs/" in n]
+read = list(files())
+source = [(n, t) for n, t in read if "/src/" in n]
+proofs = [(n, t) for n, t in read if "/proofs/" in n]
 
 found = {}
 for title, pattern in LINES.items():
