@@ -2,6 +2,8 @@
 use Rattle.std.proofs.Common.{◌≡◌, ℕ, ◌+◌, ◌-◌, ◌*◌, ◌<◌, ◌≤◌, List, [], ◌∷◌, ◌++◌, length, get_or, take, drop, sym, refl, ap, ◌∙◌, mul-zero, mul-add, arith}
 use Rattle.std.proofs.lemmas.Grind.{flat_map-append}
 use Rattle.std.proofs.lemmas.List.{take_all, take_more, append_assoc, append-nil, length-append, length-take-le, length-map, drop-drop}
+use Rattle.streams.specs.declared.refusals.PutRefusal.{PutRefusal}
+use Rattle.streams.specs.Refusals.{put_number}
 use Rattle.streams.specs.Memories.{Memory, Layer, Spelling, spelt, spelt_byte, appended, mended, appended_below, mended_below}
 use Rattle.streams.specs.Sinks.{Store, grown, patched}
 use Rattle.streams.proofs.Rewrites.{overwritten_none, overwritten_twice}
@@ -107,3 +109,12 @@ grown_more s t u text i e h p =
 pub grown_all : (s t : Store) (text : List ℕ) (i : ℕ) → (t ≡ grown s (take i text)) × (i ≤ s.memory.room) → length text ≤ i
     → (length text ≤ s.memory.room) × (t ≡ grown s text)
 grown_all s t text i e h = (omega (arith, e.1), e.0 ∙ ap (grown s) (take_all i text h))
+
+pub grown_cut : (s t u : Store) (text : List ℕ) (i : ℕ) (e : PutRefusal) → (t ≡ grown s (take i text)) × (i ≤ s.memory.room) → i < length text
+    → (t.memory.room < 1) × (u ≡ t) × (put_number e ≡ 8)
+    → (s.memory.room < length text) × (u ≡ grown s (take s.memory.room text)) × (put_number e ≡ 8)
+grown_cut s t u text i n e h p =
+    let l : length (take i text) ≡ i = length-take-le i text (omega arith) in
+    let r : t.memory.room ≡ s.memory.room - length (take i text) = ap (λ x. x.memory.room) e.0 in
+    let z : i ≡ s.memory.room = omega (arith, e.1, p.0) in
+    (omega arith, p.1 ∙ e.0 ∙ ap (λ n. grown s (take n text)) z, p.2)

@@ -1,3 +1,5 @@
 pub mod Rewrites
 pub mod Going
 pub mod Growing
+mod Fronts
+mod Owned

@@ -1,16 +1,16 @@
-ghost use Rattle.std.specs.Prelude.{◌≡◌, ◌≤◌, min, length, take};
+ghost use Rattle.std.specs.Prelude.{◌≡◌, min, length, take};
 ghost use Rattle.streams.specs.Sinks.{buffer_store};
 
 use crate::refusals::{PlaceRefusal, PutRefusal};
 use crate::sink::{Sink, overwrite};
 
-/// The caller's buffer, filled from its front.
+/// The caller's buffer, filled from its front; a `len` past its end stands for its end.
 #[derive(Drop)]
 pub struct BufferSink<'a> {
-    // the caller's memory and how much of its front is held, and no `Vec`: programs without a heap use it
+    // the caller's memory and how much of its front is held, and no `Vec`: programs without a heap use it; no ghost field says that `len` is
+    // within, since beside a `&mut` one keeps sinks in an array from being written to in place
     buf: &'a mut [u8],
     len: usize,
-    ghost within: { len ≤ length buf.now },
 }
 
 impl<'a> BufferSink<'a> {
@@ -27,7 +27,8 @@ impl<'a> BufferSink<'a> {
     pub fn bytes(&self) -> &[u8]
         ensures { result.now ≡ take self.now.len self.now.buf.now }
     {
-        &self.buf[..self.len]
+        let count = self.count();
+        &self.buf[0..count]
     }
 }
 
@@ -35,17 +36,19 @@ impl Sink for BufferSink<'_> {
     ghost store = { λ s. buffer_store s.buf.now s.len s.buf.ghost_name };
 
     fn put(&mut self, bytes: &[u8]) -> Result<(), PutRefusal> {
-        if bytes.len() > self.room() {
+        let at = self.count();
+        if bytes.len() > self.buf.len() - at {
             return Err(PutRefusal::NoRoom);
         }
-        let end = self.len + bytes.len();
-        self.buf[self.len..end].copy_from_slice(bytes);
+        let end = at + bytes.len();
+        self.buf[at..end].copy_from_slice(bytes);
         self.len = end;
         Ok(())
     }
 
     fn patch(&mut self, at: usize, bytes: &[u8]) -> Result<(), PlaceRefusal> {
-        overwrite(&mut self.buf[..self.len], at, bytes)
+        let count = self.count();
+        overwrite(&mut self.buf[0..count], at, bytes)
     }
 
     fn byte_at(&self, p: usize) -> Result<u8, PlaceRefusal> {
@@ -56,10 +59,10 @@ impl Sink for BufferSink<'_> {
         ensures held { result ≡ length (take self.now.len self.now.buf.now) }
         ensures within { result ≡ min self.now.len (length self.now.buf.now) }
     {
-        self.bytes().len()
+        self.len.min(self.buf.len())
     }
 
     fn room(&self) -> usize {
-        self.buf.len() - self.len
+        self.buf.len().saturating_sub(self.len)
     }
 }

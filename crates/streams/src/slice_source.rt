@@ -35,6 +35,10 @@ impl Source for SliceSource<'_> {
         ensures hands { Handed self.old self.new buf.old buf.new result }
         ensures most { result ≡ min (length buf.old) (length self.old) }
     {
+        // asked first, so that a read of one byte is a copy of one byte
+        if self.rest.is_empty() {
+            return 0;
+        }
         let m = self.rest.len().min(buf.len());
         let (front, rest) = self.rest.split_at(m);
         buf[..m].copy_from_slice(front);

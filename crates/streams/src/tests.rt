@@ -124,3 +124,41 @@ fn refusals_say_their_number(rt: HostRuntime) {
     assert_eq!(rt; PutRefusal::NoRoom.number(), 8);
     assert_eq!(rt; PlaceRefusal::OutOfRange.number(), 23);
 }
+
+fn put_in_both(first: &mut [u8], second: &mut [u8]) -> usize {
+    let mut sinks = [BufferSink::new(first), BufferSink::new(second)];
+    let _ = sinks[0].put(b"ab");
+    let _ = sinks[1].put(b"c");
+    sinks[0].count()
+}
+
+#[test]
+fn sinks_over_buffers_stand_in_an_array(rt: HostRuntime) {
+    let mut first = [9u8; 3];
+    let mut second = [9u8; 2];
+    assert_eq!(rt; put_in_both(&mut first, &mut second), 2);
+    assert!(rt; &first == b"ab\x09");
+    assert!(rt; &second == b"c\x09");
+}
+
+/// A source over any sink, named without a bound.
+#[derive(Drop)]
+struct Counted<'a, S> {
+    src: SinkSource<'a, S>,
+    taken: usize,
+}
+
+#[test]
+fn a_source_over_a_sink_is_named_without_a_bound(rt: HostRuntime) -> Result<(), Fail> {
+    let mut sink = VecSink::with_room(rt.alloc(), 2)?;
+    assert_eq!(rt; sink.put(b"ab"), Ok(()));
+    let mut counted = Counted {
+        src: SinkSource::new(&sink, 0),
+        taken: 0,
+    };
+    let mut buf = [9u8; 3];
+    counted.taken += counted.src.read(&mut buf);
+    assert_eq!(rt; counted.taken, 2);
+    assert!(rt; &buf == b"ab\x09");
+    Ok(())
+}

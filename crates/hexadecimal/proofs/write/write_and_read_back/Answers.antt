@@ -1,6 +1,6 @@
 use Rattle.std.proofs.lemmas.Result.{err_from_is_err_and}
 use mir.Facts.{Fits-lt-pow}
-use Rattle.std.proofs.Common.{refl, ap, ◌∙◌}
+use Rattle.std.proofs.Common.{drop, refl, ap, ◌∙◌}
 use Rattle.hexadecimal.specs.Pairs.{spelled}
 use Rattle.hexadecimal.specs.Layers.{hex_ahead}
 use Rattle.hexadecimal.proofs.Spelled.{reads_what_was_written}
@@ -18,8 +18,8 @@ returns g c =
     let old = store c.args.below.now in
     let new = store c.write_hex.new.below in
     let src = c.new-written.result in
-    let text = src.below in
-    let text-is = c.new-written.ensures.holds ∙ c.new.ensures in
+    let text = drop src.below.at (store src.below.sink.now).memory.held in
+    let text-is = ap (λ q. drop q.at (store q.sink.now).memory.held) c.new-written.ensures.holds ∙ c.new.ensures in
     let ahead-is = ap (λ e. hex_ahead e text) c.new-written.ensures.begins ∙ ap spelled text-is in
     let put = c.in_ok-write_hex.ensures in
     record {

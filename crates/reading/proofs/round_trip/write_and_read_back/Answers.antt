@@ -1,4 +1,4 @@
-use Rattle.std.proofs.Common.{sym, subst}
+use Rattle.std.proofs.Common.{drop, sym, subst}
 use Rattle.std.proofs.lemmas.Result.{err_from_is_err_and}
 use Rattle.ttlv.specs.Kinds.{value_item, Legal}
 use Rattle.ttlv.proofs.Twos.{extension_keeps_the_number}
@@ -14,7 +14,7 @@ returns-in_err-len g c =
     let old = store c.args.dst.now in
     let new = store c.write_value.new.dst in
     let scratch = c.args.scratch.now in
-    let ahead = c.new.result in
+    let ahead = drop c.new.result.at (store c.new.result.sink.now).memory.held in
     let w = c.in_ok-write_value.ensures in
     let p = put_whole bytes old new w.writes in
     let a = item_ahead old new ahead (value_item bytes) c.count-at.result c.count-at.ensures p.after c.new.ensures in
@@ -31,7 +31,7 @@ returns g c =
     let old = store c.args.dst.now in
     let new = store c.write_value.new.dst in
     let scratch = c.args.scratch.now in
-    let ahead = c.new.result in
+    let ahead = drop c.new.result.at (store c.new.result.sink.now).memory.held in
     let w = c.in_ok-write_value.ensures in
     let p = put_whole bytes old new w.writes in
     let a = item_ahead old new ahead (value_item bytes) c.count-at.result c.count-at.ensures p.after c.new.ensures in

@@ -1,3 +1,4 @@
+use Rattle.std.proofs.Common.{drop}
 use Rattle.ttlv.specs.Kinds.{value_item}
 use Rattle.reading.proofs.Tripping.{item_ahead, put_whole, put_short, fixed_back, never}
 use Rattle.reading.proofs.round_trip.write_and_read_fixed.Goals as goal
@@ -13,7 +14,7 @@ returns-in_err-read g c =
     let bytes = g.V.SerializableTtlvType.value v in
     let old = store c.args.dst.now in
     let new = store c.write_fixed.new.dst in
-    let ahead = c.new.result in
+    let ahead = drop c.new.result.at (store c.new.result.sink.now).memory.held in
     let w = c.in_ok-write_fixed.ensures in
     let p = put_whole bytes old new w.writes in
     let a = item_ahead old new ahead (value_item bytes) c.count-at.result c.count-at.ensures p.after c.new.ensures in
