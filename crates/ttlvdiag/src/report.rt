@@ -4,6 +4,7 @@ ghost use Rattle.ttlvdiag.specs.Lines.{CutsAtLf};
 ghost use Rattle.ttlvdiag.specs.Reports.{message_text, report_text};
 
 use crate::lines::Lines;
+use hexadecimal::digits::digits;
 use hexadecimal::hex_source::HexSource;
 use std::alloc::{AllocError, Global};
 use streams::slice_source::SliceSource;
@@ -18,7 +19,9 @@ fn add_hex(out: &mut String, bytes: &[u8]) -> Result<(), AllocError>
     ensures { OnOk result (string_bytes out.new ≡ string_bytes out.old ++ hexed bytes.now) }
 {
     for b in bytes {
-        write!(out, "{b:02X}")?;
+        let [high, low] = digits(*b);
+        out.push(char::from(high))?;
+        out.push(char::from(low))?;
     }
     Ok(())
 }
