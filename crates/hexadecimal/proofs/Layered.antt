@@ -107,6 +107,12 @@ hex_left s t bytes i e h k =
     let r : t.memory.room ≡ s.memory.room - length (take i bytes) = ap (λ x. x.memory.room) e.0 in
     omega arith
 
+pub hex_no_break : (n : ℕ) (t : Store) (ds : List ℕ) (b : ℕ) → ds ≡ digits b → t.memory.room < length ds → 0 < (hex_store n t).memory.room → ⊥
+hex_no_break n t ds b d o h =
+    let e = hex_even (length t.memory.held) t.memory.room h in
+    let two : length ds ≡ 2 = ap length d in
+    omega (arith, e.1)
+
 -- One byte patched, through its pair.
 pub hex_patch_one : (n₀ n : ℕ) (s t u : Store) (bytes ds : List ℕ) (p i : ℕ) → ds ≡ digits (get_or bytes i 0) → get_or bytes i 0 < 256
     → (2 * (p + i) + length ds ≤ length t.memory.held) × (u ≡ patched t (2 * (p + i)) ds)

@@ -1,6 +1,6 @@
 -- What digit pairs spell.
 use Rattle.std.proofs.Common.{◌≡◌, ℕ, suc, ◌+◌, ◌*◌, ◌/◌, ◌%◌, ◌<◌, ◌≤◌, Bool, true, false, ◌⊎◌, List, [], ◌∷◌, ◌++◌, length, get_or, take, drop, Some, None, Option, sym, refl, ap, ◌∙◌, inl, inr, arith}
-use Rattle.std.proofs.lemmas.List.{drop-drop, nil_from_length}
+use Rattle.std.proofs.lemmas.List.{drop-drop, drop_all, nil_from_length}
 use Rattle.std.proofs.lemmas.Bool.{cases_lt, lt-ltb, le-ltb, cond-true, cond-false}
 use Rattle.std.proofs.lemmas.Bool.Decides.{nat_tests}
 use Rattle.hexadecimal.specs.Digits.{nibble, digit, digits, both, hexed}
@@ -54,6 +54,11 @@ head_pair [] two o h p e = absurd (omega arith)
 head_pair (x ∷ []) two o h p e = absurd (omega arith)
 head_pair (x ∷ y ∷ text) two o h p e =
     ap (λ v. led v (spelled text)) (ap (λ q. both (nibble (get_or q 0 0)) (nibble (get_or q 1 0))) (sym p) ∙ e)
+
+pub head_short : (text : List ℕ) → length text < 2 → spelled text ≡ []
+head_short [] h = refl
+head_short (x ∷ []) h = refl
+head_short (x ∷ y ∷ text) h = absurd (omega arith)
 
 -- Where a byte is spelled, the rest is spelled by what follows its pair.
 after_pair : (o : Option ℕ) (text : List ℕ) → 1 ≤ length (led o (spelled text)) → length (led o (spelled text)) ≡ length (spelled text) + 1
@@ -116,6 +121,16 @@ pub asked_then : (k : ℕ) (ended : Bool) (text : List ℕ) (r : Reading) → r 
 asked_then k true text r e = ap (λ (q : Reading). hex_asked k q.ended q.text) e
 asked_then k false text r e = then_more k text r e (cases_lt (length (spelled text)) 1)
 
+-- The three ways of one step: a pair came, it was broken, or the text ended within it.
+pub pair_came : (ended : Bool) (old new two : List ℕ) (b : ℕ) → ended ≡ false → 2 ≤ length old → two ≡ take 2 old → new ≡ drop 2 old
+    → Some b ≡ both (nibble (get_or two 0 0)) (nibble (get_or two 1 0))
+    → (hex_ahead ended old ≡ b ∷ hex_ahead ended new) × (◌≡◌ {A = Reading} (record { ended = ended; text = new }) (hex_asked 1 ended old))
+pair_came true old new two b f h p n e = let z : ◌≡◌ {A = ℕ} 0 1 = cc in absurd (omega arith)
+pair_came false old new two b f h p n e =
+    let s : spelled old ≡ b ∷ spelled (drop 2 old) = head_pair old two (Some b) h p (sym e) in
+    let l : 1 ≤ length (spelled old) = omega (arith, ap length s) in
+    (s ∙ ap (λ t. b ∷ spelled t) (sym n), ap (λ t. record { ended = false; text = t }) n ∙ sym (asked_pair old l))
+
 pub pair_broke : (ended : Bool) (old new two : List ℕ) → ended ≡ false → 2 ≤ length old → two ≡ take 2 old → new ≡ drop 2 old
     → None ≡ both (nibble (get_or two 0 0)) (nibble (get_or two 1 0))
     → (hex_ahead ended old ≡ []) × (◌≡◌ {A = Reading} (record { ended = true; text = new }) (hex_asked 1 ended old))
@@ -123,6 +138,13 @@ pair_broke true old new two f h p n e = let z : ◌≡◌ {A = ℕ} 0 1 = cc in 
 pair_broke false old new two f h p n e =
     let s : spelled old ≡ [] = head_pair old two None h p (sym e) in
     (s, ap (λ t. record { ended = true; text = t }) n ∙ sym (asked_broken old 0 s))
+
+pub pair_lacked : (ended : Bool) (old new : List ℕ) → ended ≡ false → length old < 2 → new ≡ []
+    → (hex_ahead ended old ≡ []) × (◌≡◌ {A = Reading} (record { ended = true; text = new }) (hex_asked 1 ended old))
+pair_lacked true old new f h n = let z : ◌≡◌ {A = ℕ} 0 1 = cc in absurd (omega arith)
+pair_lacked false old new f h n =
+    let s : spelled old ≡ [] = head_short old h in
+    (s, ap (λ t. record { ended = true; text = t }) (n ∙ sym (drop_all 2 old (omega arith))) ∙ sym (asked_broken old 0 s))
 
 -- A layer that has ended takes nothing more, and has nothing ahead.
 pub asked_ended : (k : ℕ) (ended : Bool) (text : List ℕ) → ended ≡ true → ◌≡◌ {A = Reading} (record { ended = ended; text = text }) (hex_asked k ended text)

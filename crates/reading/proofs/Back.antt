@@ -60,7 +60,7 @@ scratch_at mid scratch n l (inr h) =
     ap (λ t. (take n mid ++ t) ++ drop n scratch) (drop_all (length mid) (take n scratch) (omega arith))
     ∙ ap (λ t. t ++ drop n scratch) (append-nil (take n mid)) ∙ ap (λ k. take k mid ++ drop k scratch) (sym e)
 
-scratch_front : (old mid scratch part part' : List ℕ) (n k : ℕ) → mid ≡ drop 4 old → n ≤ length scratch → part ≡ take (n - 0) scratch → part' ≡ take (length part) mid ++ drop (length mid) part
+pub scratch_front : (old mid scratch part part' : List ℕ) (n k : ℕ) → mid ≡ drop 4 old → n ≤ length scratch → part ≡ take (n - 0) scratch → part' ≡ take (length part) mid ++ drop (length mid) part
     → k ≡ min n (length mid) → part' ++ drop (n - 0) scratch ≡ take k (drop 4 old) ++ drop k scratch
 scratch_front old mid scratch part part' n k m l p q e =
     let z : n - 0 ≡ n = omega arith in

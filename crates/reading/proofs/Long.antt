@@ -1,8 +1,9 @@
 -- Values of more than eight bytes, and the number of an Enumeration.
-use Rattle.std.proofs.Common.{◌≡◌, ℕ, ◌<◌, Bool, true, false, cond, not, ◌&&◌, eqb, List, length, take, None, Ok, Err, Result, sym, refl, ap, ◌∙◌, subst, arith}
+use Rattle.std.proofs.Common.{◌≡◌, ℕ, ◌+◌, ◌*◌, ◌<◌, Bool, true, false, cond, not, ◌&&◌, eqb, List, ◌++◌, length, get_or, take, drop, Some, None, Ok, Err, Option, Result, sym, refl, ap, ◌∙◌, subst, arith}
 use Rattle.std.proofs.lemmas.Bool.{eqb-true}
-use Rattle.std.proofs.lemmas.List.{length-take-le}
+use Rattle.std.proofs.lemmas.List.{length-take-le, append-nil, drop_all}
 use Rattle.ttlv.specs.Kinds.{fits}
+use Rattle.ttlv.proofs.Reading.{of_be_4}
 use Rattle.text.specs.declared.utf8.Utf8.{Utf8}
 use Rattle.text.specs.declared.utf8.Utf8.TheVariants.{Start}
 use Rattle.text.specs.Deciding.{run, whole, textual}
@@ -14,7 +15,14 @@ use Rattle.values.specs.declared.refusals.ValueRefusal.TheVariants.{InvalidTtlvV
 use Rattle.values.specs.Legal.{good, fixed_length, bytes_judged}
 use Rattle.reading.specs.Parts.{long_judged, ReadsBytes, Passed}
 use Rattle.reading.specs.Reads.{printed}
-use Rattle.reading.proofs.Parted.{bytes_good}
+use Rattle.reading.proofs.Parted.{Whole, bytes_good}
+
+-- The four bytes of an Enumeration are the number that is printed.
+pub number_is : (kind : TtlvType) (bytes : List ℕ) (n : ℕ) → kind ≡ Enumeration → fits (type_byte kind) (length bytes) ≡ true
+    → n ≡ get_or bytes 0 0 * 16777216 + get_or bytes 1 0 * 65536 + get_or bytes 2 0 * 256 + get_or bytes 3 0 → Some n ≡ printed (type_byte kind) bytes
+number_is kind bytes n e f v =
+    let l : length bytes ≡ 4 = eqb-true (length bytes) 4 (ap (λ k. fits (type_byte k) (length bytes)) (sym e) ∙ f) in
+    rw e (ap Some (v ∙ of_be_4 bytes l))
 
 abbrev Judged : Type 0
 Judged = Result (Unit {0}) ValueRefusal
@@ -79,3 +87,13 @@ long_good_bytes kind len old new seen p e h j =
     let n : printed (type_byte kind) (take len old) ≡ None = printed_at kind (length (take len old)) (take len old) (fits_judged kind (take len old) (sym q)) (omega arith) in
     subst (λ y. ReadsBytes (printed (type_byte kind) (take len old)) kind len old new (Ok y)) n
     (bytes_good (printed (type_byte kind) (take len old)) kind len old new p.enough p.left q)
+
+-- A short value was read.
+pub short_good_bytes : (kind : TtlvType) (len : ℕ) (old new buf value : List ℕ) (m : Option ℕ) → Whole kind len old new → length buf ≡ len → value ≡ take (length buf) old ++ drop (length old) buf
+    → (fits (type_byte kind) (length value) ≡ true → m ≡ printed (type_byte kind) value) → ReadsBytes (printed (type_byte kind) (take len old)) kind len old new (Ok m)
+short_good_bytes kind len old new buf value m w l e h =
+    let v : value ≡ take len old =
+    e ∙ ap (λ k. take k old ++ drop (length old) buf) l ∙ ap (λ t. take len old ++ t) (drop_all (length old) buf (omega (arith, w.enough))) ∙ append-nil (take len old) in
+    let f : fits (type_byte kind) (length value) ≡ true = ap (λ b. fits (type_byte kind) (length b)) v ∙ fits_judged kind (take len old) w.judged in
+    subst (λ y. ReadsBytes (printed (type_byte kind) (take len old)) kind len old new (Ok y)) (sym (h f ∙ ap (printed (type_byte kind)) v))
+    (bytes_good (printed (type_byte kind) (take len old)) kind len old new w.enough w.left (sym w.judged))

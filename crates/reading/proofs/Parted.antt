@@ -1,18 +1,29 @@
 -- The parts of a value as they are read.
-use Rattle.std.proofs.Common.{◌≡◌, ℕ, ◌≤◌, Bool, true, false, cond, ltb, List, length, take, drop, Ok, Err, Result, sym, refl, ap, ◌∙◌, subst, arith}
-use Rattle.std.proofs.lemmas.Bool.{le-ltb, ltb-false, cond-false}
+use Rattle.std.proofs.Common.{◌≡◌, ℕ, ◌<◌, ◌≤◌, Bool, true, false, cond, ltb, List, [], ◌++◌, length, take, drop, Ok, Err, Result, sym, refl, ap, ◌∙◌, subst, arith}
+use Rattle.std.proofs.lemmas.List.{take_all, drop_all, append-nil}
+use Rattle.std.proofs.lemmas.Bool.{lt-ltb, le-ltb, ltb-false, cond-true, cond-false}
 use Rattle.streams.specs.declared.refusals.ReadRefusal.{ReadRefusal}
 use Rattle.streams.specs.declared.refusals.ReadRefusal.TheVariants.{Ended}
 use Rattle.streams.specs.Refusals.{read_taken}
+use Rattle.streams.specs.Sources.{Served, Cut}
 use Rattle.fields.specs.declared.ttlv_type.TtlvType.{TtlvType}
 use Rattle.values.specs.declared.refusals.ValueRefusal.{ValueRefusal}
 use Rattle.values.specs.Legal.{bytes_judged}
 use Rattle.reading.specs.declared.refusals.ValueFault.{ValueFault}
 use Rattle.reading.specs.declared.refusals.ValueFault.TheVariants.{Source, Value}
-use Rattle.reading.specs.Parts.{ReadsBytes, judged_as}
+use Rattle.reading.specs.Parts.{ReadsBytes, judged_as, Short}
 
 pub ended : (e : ReadRefusal) (n : ℕ) → read_taken e ≡ n → e ≡ Ended n
 ended (Ended t) n h = ap Ended h
+
+-- Past the end there is nothing.
+pub none_left : (n : ℕ) (old new : List ℕ) → length old < n → new ≡ [] → new ≡ drop n old
+none_left n old new h e = e ∙ sym (drop_all n old (omega arith))
+
+pub bytes_short : {X : Type 0} (x : X) (kind : TtlvType) (n : ℕ) (old new : List ℕ) (e : ReadRefusal) → length old < n → read_taken e ≡ length old → new ≡ []
+    → ReadsBytes x kind n old new (Err (Source e))
+bytes_short x kind n old new e h t l =
+    record { answer = ap (λ y. Err (Source y)) (ended e (length old) t) ∙ sym (cond-true _ _ _ (lt-ltb (length old) n h)); left = none_left n old new h l }
 
 pub bytes_bad : {X : Type 0} (x : X) (kind : TtlvType) (n : ℕ) (old new : List ℕ) (e : ValueRefusal) → n ≤ length old → new ≡ drop n old → Err e ≡ bytes_judged kind (take n old)
     → ReadsBytes x kind n old new (Err (Value e))
@@ -21,6 +32,18 @@ bytes_bad x kind n old new e h l j = record { answer = ap (judged_as x) j ∙ sy
 pub bytes_good : {X : Type 0} (x : X) (kind : TtlvType) (n : ℕ) (old new : List ℕ) → n ≤ length old → new ≡ drop n old → Ok tt ≡ bytes_judged kind (take n old)
     → ReadsBytes x kind n old new (Ok x)
 bytes_good x kind n old new h l j = record { answer = ap (judged_as x) j ∙ sym (cond-false _ _ _ (le-ltb (length old) n h)); left = l }
+
+-- What a buffer holds after an exact read, cut short or not.
+pub filled_cut : (old new buf buf' : List ℕ) (e : ReadRefusal) → Cut old new buf buf' e → buf' ≡ take (length buf) old ++ drop (length old) buf
+filled_cut old new buf buf' e c = c.filled ∙ ap (λ l. l ++ drop (length old) buf) (sym (take_all (length buf) old (omega (arith, c.short))))
+
+pub filled_served : (old new buf buf' : List ℕ) → Served old new buf buf' → buf' ≡ take (length buf) old ++ drop (length old) buf
+filled_served old new buf buf' s =
+    s.filled ∙ sym (append-nil (take (length buf) old)) ∙ ap (λ l. take (length buf) old ++ l) (sym (drop_all (length old) buf s.enough))
+
+-- The source ended before all the bytes came.
+pub bytes_ended : {X : Type 0} (x : X) (kind : TtlvType) (n : ℕ) (old new : List ℕ) (e : ReadRefusal) → Short old new n e → ReadsBytes x kind n old new (Err (Source e))
+bytes_ended x kind n old new e s = bytes_short x kind n old new e s.short (ap read_taken s.cause) s.left
 
 -- A refusal is the same whatever the answer would be.
 refused_too : {X Y : Type 0} (x : X) (y : Y) (b : Bool) (short e : ValueFault) (j : Result (Unit {0}) ValueRefusal)

@@ -18,7 +18,7 @@ use Rattle.reading.specs.declared.round_trip.RoundTripFault.{RoundTripFault}
 use Rattle.reading.specs.declared.round_trip.RoundTripFault.TheVariants.{Write, Read}
 use Rattle.reading.specs.Stages.{whole, no_scratch, told_length, told_value, into_scratch, without_scratch, answered}
 use Rattle.reading.specs.Reads.{Stops, ReadsValue, ReadBack, scratched}
-use Rattle.reading.specs.Trips.{written_or, RoundTrip}
+use Rattle.reading.specs.Trips.{written_or, RoundTrip, FixedTrip}
 use Rattle.reading.proofs.Staged.{stage_2}
 use Rattle.reading.proofs.Back.{reads_back, reads_back_good}
 
@@ -137,6 +137,10 @@ fixed_back spelt v typed bytes ahead new fixed r only all l lt back a s =
   where
     same : (n : ℕ) → eqb n n ≡ true
     same n = eq-eqb n n refl
+
+-- It was written and read back.
+pub fixed_done : {X : Type 0} (v x : X) (bytes : List ℕ) (old new : Store) → Put bytes old new → ◌≡◌ {A = Result X ValueFault} (Ok x) (Ok v) → FixedTrip v bytes old new (Ok x)
+fixed_done v x bytes old new p e = let q : x ≡ v = cc in record { answer = ap Ok q ∙ chosen bytes old new _ _ _ p; after = p.after ∙ chosen bytes old new _ _ _ p }
 
 pub never : {X : Type 0} (v : X) (e : ValueFault) → ◌≡◌ {A = Result X ValueFault} (Err e) (Ok v) → ⊥
 never v e h = let z : ◌≡◌ {A = ℕ} 0 1 = cc in absurd (omega arith)

@@ -4,6 +4,21 @@ use native.Mathlib.Nat.{pow-succ', mul-add-div_right, mul-add-mod_self_right}
 use lib.Arith.{digits_lt, digits_div, mod-mul}
 use Rattle.ttlv.specs.Numbers.{be, of_be}
 
+pub of_be_3 : (b : List ℕ) → length b ≡ 3 → get_or b 0 0 * 65536 + get_or b 1 0 * 256 + get_or b 2 0 ≡ of_be b
+of_be_3 [] h = absurd (omega arith)
+of_be_3 (x ∷ []) h = absurd (omega arith)
+of_be_3 (x ∷ y ∷ []) h = absurd (omega arith)
+of_be_3 (x ∷ y ∷ z ∷ []) h = omega arith
+of_be_3 (x ∷ y ∷ z ∷ w ∷ l) h = absurd (omega arith)
+
+pub of_be_4 : (b : List ℕ) → length b ≡ 4 → get_or b 0 0 * 16777216 + get_or b 1 0 * 65536 + get_or b 2 0 * 256 + get_or b 3 0 ≡ of_be b
+of_be_4 [] h = absurd (omega arith)
+of_be_4 (x ∷ []) h = absurd (omega arith)
+of_be_4 (x ∷ y ∷ []) h = absurd (omega arith)
+of_be_4 (x ∷ y ∷ z ∷ []) h = absurd (omega arith)
+of_be_4 (x ∷ y ∷ z ∷ w ∷ []) h = omega arith
+of_be_4 (x ∷ y ∷ z ∷ w ∷ u ∷ l) h = absurd (omega arith)
+
 pub of_be_8 : (b : List ℕ) → length b ≡ 8
     → get_or b 0 0 * 72057594037927936 + get_or b 1 0 * 281474976710656 + get_or b 2 0 * 1099511627776 + get_or b 3 0 * 4294967296 + get_or b 4 0 * 16777216 + get_or b 5 0 * 65536 + get_or b 6 0 * 256 + get_or b 7 0 ≡ of_be b
 of_be_8 [] h = absurd (omega arith)

@@ -1,7 +1,7 @@
 -- Lines, one after another.
-use Rattle.std.proofs.Common.{◌≡◌, ℕ, zero, suc, ◌+◌, ◌<◌, Bool, true, false, cond, eqb, List, [], ◌∷◌, length, get_or, take, drop, sym, refl, ap, ◌∙◌, add-one, arith}
+use Rattle.std.proofs.Common.{◌≡◌, ℕ, zero, suc, ◌+◌, ◌<◌, ◌≤◌, Bool, true, false, cond, eqb, List, [], ◌∷◌, ◌++◌, length, get_or, take, drop, sym, refl, ap, ◌∙◌, add-one, arith}
 use Rattle.std.specs.List.{flat_map}
-use Rattle.std.proofs.lemmas.List.{take_rest}
+use Rattle.std.proofs.lemmas.List.{take_rest, take_more, drop_more, drop_all, take_all, append_assoc, append-nil}
 use Rattle.std.proofs.lemmas.Bool.{eq-eqb, ne_eqb, eqb-true, eqb-false, cond-true, cond-false}
 use Rattle.ttlvdiag.specs.Lines.{led_by, lines, first_line, after_line, ended, closed, Unbroken, CutsAtLf}
 
@@ -31,6 +31,34 @@ after_line_none (c ∷ text) ne = cond-false _ _ _ (ne_eqb c 10 (ne 0 (omega ari
 -- What cutting a text at its first LF needs.
 pub ruleset cuts = (first_line_at, after_line_at, first_line_all, after_line_none, take_rest)
 
+-- The first line is the characters passed so far, then the first line of what is left.
+abbrev pub Passed : List ℕ → ℕ → Type 0
+Passed text i = (first_line text ≡ take i text ++ first_line (drop i text)) × (after_line text ≡ after_line (drop i text))
+
+pub passed_more : (text : List ℕ) (i : ℕ) → i < length text → (get_or text i 0 ≡ 10 → ⊥) → Passed text i → Passed text (i + 1)
+passed_more text i h ne p =
+    let c = get_or text i 0 in
+    let d : drop i text ≡ c ∷ drop (i + 1) text = drop_more text i 0 h in
+    let f : first_line (drop i text) ≡ c ∷ first_line (drop (i + 1) text) = ap first_line d ∙ cond-false _ _ _ (ne_eqb c 10 ne) in
+    let a : after_line (drop i text) ≡ after_line (drop (i + 1) text) = ap after_line d ∙ cond-false _ _ _ (ne_eqb c 10 ne) in
+    let t : take (i + 1) text ≡ take i text ++ c ∷ [] = take_more text i 0 h in (
+      p.0 ∙ ap (λ l. take i text ++ l) f ∙ sym (append_assoc (take i text) (c ∷ []) (first_line (drop (i + 1) text))) ∙ ap (λ l. l ++ first_line (drop (i + 1) text)) (sym t),
+      p.1 ∙ a,
+    )
+
+pub passed_line : (text : List ℕ) (i : ℕ) → i < length text → get_or text i 0 ≡ 10 → Passed text i → (first_line text ≡ take i text) × (after_line text ≡ drop (i + 1) text)
+passed_line text i h e p =
+    let c = get_or text i 0 in
+    let d : drop i text ≡ c ∷ drop (i + 1) text = drop_more text i 0 h in
+    let f : first_line (drop i text) ≡ [] = ap first_line d ∙ cond-true _ _ _ (eq-eqb c 10 e) in
+    let a : after_line (drop i text) ≡ drop (i + 1) text = ap after_line d ∙ cond-true _ _ _ (eq-eqb c 10 e) in
+    (p.0 ∙ ap (λ l. take i text ++ l) f ∙ append-nil (take i text), p.1 ∙ a)
+
+pub passed_all : (text : List ℕ) (i : ℕ) → length text ≤ i → Passed text i → (first_line text ≡ text) × (after_line text ≡ [])
+passed_all text i h p =
+    let d : drop i text ≡ [] = drop_all i text h in
+    (p.0 ∙ ap (λ l. take i text ++ first_line l) d ∙ append-nil (take i text) ∙ take_all i text h, p.1 ∙ ap after_line d)
+
 -- The lines of a text that is not empty: its first line, and those of what follows.
 split_at : (b : Bool) (c : ℕ) (text : List ℕ) → (0 < length text → lines text ≡ first_line text ∷ lines (after_line text))
     → cond b ([] ∷ lines text) (led_by c (lines text)) ≡ cond b [] (c ∷ first_line text) ∷ lines (cond b text (after_line text))
@@ -41,6 +69,19 @@ split_at false c (d ∷ text) r = ap (led_by c) (r (omega arith))
 pub lines_split : (text : List ℕ) → 0 < length text → lines text ≡ first_line text ∷ lines (after_line text)
 lines_split [] h = absurd (omega arith)
 lines_split (c ∷ text) h = split_at (eqb c 10) c text (lines_split text)
+
+-- What follows the first line is shorter.
+shorter_at : (b : Bool) (text : List ℕ) → length (after_line text) ≤ length text → length (cond b text (after_line text)) ≤ length text
+shorter_at true text h = omega arith
+shorter_at false text h = h
+
+after_shorter : (text : List ℕ) → length (after_line text) ≤ length text
+after_shorter [] = omega arith
+after_shorter (c ∷ text) = let h = shorter_at (eqb c 10) text (after_shorter text) in omega arith
+
+pub after_falls : (text : List ℕ) → 0 < length text → length (after_line text) < length text
+after_falls [] h = absurd (omega arith)
+after_falls (c ∷ text) h = let k = shorter_at (eqb c 10) text (after_shorter text) in omega arith
 
 -- The law: no line holds an LF, and the lines are the text.
 led_unbroken : (c : ℕ) (ls : List (List ℕ)) → (c ≡ 10 → ⊥) → Unbroken ls → Unbroken (led_by c ls)

@@ -1,3 +1,5 @@
 pub mod Putting
 pub mod Judging
 mod Textual
+mod Extending
+mod Making
